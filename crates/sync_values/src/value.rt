@@ -1,0 +1,37 @@
+/// A value of an Integer or Boolean expression.
+#[derive(Clone, Copy, Debug, PartialEq, Eq)]
+pub enum Value {
+    Int(i64),
+    Bool(bool),
+}
+
+/// Why an expression has no value.
+#[derive(Clone, Copy, Debug, PartialEq, Eq)]
+pub enum Fail {
+    /// A divisor is 0.
+    Divide,
+    /// A result exists and does not fit 64 bits.
+    TooLarge,
+}
+
+/// A relation between two Integers or two Booleans, with false below true.
+#[derive(Clone, Copy, Debug, PartialEq, Eq)]
+pub enum Rel {
+    Less,
+    LessEq,
+    Greater,
+    GreaterEq,
+    Equal,
+    Unequal,
+}
+
+/// An operator between two parts of a chain.
+#[derive(Clone, Copy, Debug, PartialEq, Eq)]
+pub enum ChainOp {
+    Plus,
+    Minus,
+    Times,
+    Over,
+    And,
+    Or,
+}
