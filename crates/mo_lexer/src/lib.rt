@@ -1,0 +1,6 @@
+//! Tokens of a model text.
+#![tactic(auto)]
+
+mod token;
+
+pub use token::{Sym, Token, TokenKind, Word};
