@@ -1,0 +1,16 @@
+pub mod Assignment
+pub mod Clocks
+pub mod Faults
+pub mod Functions
+pub mod Given
+pub mod Meaning
+pub mod Meets
+pub mod Moments
+pub mod Occurrences
+pub mod Operators
+pub mod Parts
+pub mod Plan
+pub mod Setting
+pub mod Trace
+pub mod Uses
+pub mod Views
