@@ -1,0 +1,139 @@
+//! The files, the standard output and the standard error of the machine. What they give and receive
+//! is not told, and no more is known of it than the counts that the machine reports.
+ghost use Rattle.std.specs.Prelude.{◌≡◌, ◌<◌, ◌≤◌, None, false, ℕ, length, IfOk};
+ghost use Rattle.outside_io.specs.Counts.{next, Rose};
+ghost use Rattle.outside_io.specs.Puts.{Takes};
+
+use crate::shelf::{Read, Shelf};
+use crate::sink::{Put, Sink};
+use std::io::{Read as _, Seek, SeekFrom, Write};
+use std::marker::Model;
+use std::rt::Files;
+use std::{fs, io};
+
+/// The files of the machine. One count of faults serves every name.
+#[derive(Drop)]
+pub struct FileShelf<'a, R: Files> {
+    rt: &'a R,
+    faults: u64,
+}
+
+impl<'a, R: Files> Model for FileShelf<'a, R> {
+    ghost Value = { ℕ };
+
+    ghost view = { λ s. s.faults };
+}
+
+impl<'a, R: Files> FileShelf<'a, R> {
+    pub fn new(rt: &'a R) -> FileShelf<'a, R>
+        ensures { result ≡ 0 }
+    {
+        FileShelf { rt, faults: 0 }
+    }
+}
+
+impl<'a, R: Files> Shelf for FileShelf<'a, R> {
+    ghost held = { λ s. None };
+
+    ghost gives_empty = { λ s. false };
+
+    ghost faults = { λ s name. s };
+
+    fn read(&mut self, name: &str, at: u64, into: &mut [u8]) -> Read {
+        match read_at(self.rt, name, at, into) {
+            Ok(0) => Read::End,
+            Ok(count) => Read::Bytes(count),
+            Err(_) => {
+                self.faults = self.faults.saturating_add(1);
+                Read::Failed
+            }
+        }
+    }
+}
+
+/// Reads from a place of a file on. No file is kept open, so a shelf takes no memory.
+fn read_at<R: Files>(rt: &R, name: &str, at: u64, into: &mut [u8]) -> io::Result<usize>
+    ensures { IfOk result (λ count. count ≤ length into.new) }
+{
+    let mut file = fs::open(rt, name)?;
+    file.seek(SeekFrom::Start(at))?;
+    file.read(into)
+}
+
+/// The standard output of the machine.
+#[derive(Drop)]
+pub struct OutSink<W: Write + Drop> {
+    inner: W,
+    faults: u64,
+}
+
+impl<W: Write + Drop> Model for OutSink<W> {
+    ghost Value = { ℕ };
+
+    ghost view = { λ s. s.faults };
+}
+
+impl<W: Write + Drop> OutSink<W> {
+    pub fn new(inner: W) -> OutSink<W>
+        ensures { result ≡ 0 }
+    {
+        OutSink { inner, faults: 0 }
+    }
+}
+
+impl<W: Write + Drop> Sink for OutSink<W> {
+    ghost text = { λ s. None };
+
+    ghost faults = { λ s. s };
+
+    fn put(&mut self, piece: &[u8]) -> Put {
+        write_some(&mut self.inner, piece, &mut self.faults)
+    }
+}
+
+/// The standard error of the machine.
+#[derive(Drop)]
+pub struct ErrSink<W: Write + Drop> {
+    inner: W,
+    faults: u64,
+}
+
+impl<W: Write + Drop> Model for ErrSink<W> {
+    ghost Value = { ℕ };
+
+    ghost view = { λ s. s.faults };
+}
+
+impl<W: Write + Drop> ErrSink<W> {
+    pub fn new(inner: W) -> ErrSink<W>
+        ensures { result ≡ 0 }
+    {
+        ErrSink { inner, faults: 0 }
+    }
+}
+
+impl<W: Write + Drop> Sink for ErrSink<W> {
+    ghost text = { λ s. None };
+
+    ghost faults = { λ s. s };
+
+    fn put(&mut self, piece: &[u8]) -> Put {
+        write_some(&mut self.inner, piece, &mut self.faults)
+    }
+}
+
+/// Writes the first bytes of a piece. It is a fault too where nothing of the piece is taken.
+fn write_some<W: Write>(inner: &mut W, piece: &[u8], faults: &mut u64) -> Put
+    requires { 0 < length piece.now }
+    ensures takes { Takes piece.now None None result }
+    ensures failed { result ≡ Put.Failed → faults.new ≡ next faults.old }
+    ensures counts { faults.old ≤ faults.new }
+{
+    match inner.write(piece) {
+        Ok(count) if count > 0 => Put::Taken(count),
+        _ => {
+            *faults = faults.saturating_add(1);
+            Put::Failed
+        }
+    }
+}

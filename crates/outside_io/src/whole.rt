@@ -1,0 +1,58 @@
+//! Files that are read whole.
+ghost use Rattle.std.specs.Prelude.{◌≡◌, ◌<◌, ◌≤◌, ◌^◌, List, ℕ, length, IfOk};
+ghost use Rattle.outside_io.specs.Counts.{Rose};
+ghost use Rattle.outside_io.specs.Files.{told, IsLonger, IsWhole};
+ghost use Rattle.outside_io.specs.declared.whole.ReadEnd.TheVariants.{NoMemory};
+
+use crate::shelf::{Read, Shelf};
+use std::alloc::{AllocError, Global};
+
+/// The most bytes that one read asks for.
+const PART_LEN: usize = 16_384;
+
+/// Why a file was not read whole.
+#[derive(Clone, Copy, Debug, PartialEq, Eq)]
+pub enum ReadEnd {
+    /// A read failed.
+    Failed,
+    /// The file has more bytes than the limit.
+    TooLong,
+    /// Memory was refused.
+    NoMemory,
+}
+
+impl From<AllocError> for ReadEnd {
+    ghost from_gives = { λ _ end. end ≡ NoMemory };
+
+    fn from(_error: AllocError) -> ReadEnd {
+        ReadEnd::NoMemory
+    }
+}
+
+/// Reads a file of at most `limit` bytes whole.
+pub fn read_whole<S: Shelf>(
+    alloc: Global,
+    shelf: &mut S,
+    name: &str,
+    limit: u64,
+) -> Result<Vec<u8>, ReadEnd>
+    requires { limit < 2 ^ 32 }
+    ensures whole { IfOk result (λ bytes. IsWhole (told (S.held shelf.old) (S.gives_empty shelf.old) name.now) bytes.items) }
+    ensures within { IfOk result (λ bytes. length bytes.items ≤ limit) }
+    ensures long { result ≡ Err ReadEnd.TooLong → IsLonger (told (S.held shelf.old) (S.gives_empty shelf.old) name.now) limit }
+    ensures failed { result ≡ Err ReadEnd.Failed → Rose (S.faults shelf.old name.now) (S.faults shelf.new name.now) }
+    ensures counts { (other : List ℕ) → S.faults shelf.old other ≤ S.faults shelf.new other }
+    ensures holds { S.held shelf.new ≡ S.held shelf.old }
+    ensures flag { S.gives_empty shelf.new ≡ S.gives_empty shelf.old }
+{
+    let mut bytes = Vec::new(alloc);
+    let mut part = [0u8; PART_LEN];
+    while bytes.len() as u64 <= limit {
+        match shelf.read(name, bytes.len() as u64, &mut part) {
+            Read::Bytes(count) => bytes.extend_from_slice(&part[..count])?,
+            Read::End => return Ok(bytes),
+            Read::Failed => return Err(ReadEnd::Failed),
+        }
+    }
+    Err(ReadEnd::TooLong)
+}
