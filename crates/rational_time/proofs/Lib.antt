@@ -1,0 +1,4 @@
+pub mod Divisors
+pub mod Floors
+pub mod Fractions
+pub mod Counting

@@ -1,0 +1,10 @@
+use Rattle.std.proofs.Common.{ℕ}
+use Rattle.std.specs.Int.{IsGcd}
+use Rattle.rational_time.proofs.divisor.wide_gcd.Given as goal
+
+-- what is the greatest common divisor of the two numbers left is that of the two given
+abbrev pub invariant-loop-rest : goal.invariant-loop-rest
+invariant-loop-rest l = (g : ℕ) → IsGcd l.divisor l.rest g → IsGcd l.fn.a l.fn.b g
+
+abbrev pub decreases-loop-rest : goal.decreases-loop-rest
+decreases-loop-rest l = l.rest
