@@ -1,5 +1,5 @@
 -- The operators on values: the exact result, how they fail, or nothing where a part has no value.
-use Rattle.std.specs.Prelude.{Bool, true, false, not, if◌then◌else◌, List, [], ◌∷◌, ℤ, ◌+ℤ◌, ◌-ℤ◌, ◌*ℤ◌, neg_ℤ, int_lt, Option, Some, None, Result, Ok, Err}
+use Rattle.std.specs.Prelude.{true, false, not, List, [], ◌∷◌, ℤ, ◌+ℤ◌, ◌-ℤ◌, ◌*ℤ◌, neg_ℤ, Option, Some, None, Result, Ok, Err}
 use Rattle.sync_values.specs.Arithmetic.{fitted}
 use Rattle.sync_values.specs.declared.value.Value.{Value}
 use Rattle.sync_values.specs.declared.value.Value.TheVariants as value
@@ -7,7 +7,7 @@ use Rattle.sync_values.specs.declared.value.Fail.{Fail}
 use Rattle.sync_values.specs.declared.value.ChainOp.{ChainOp}
 use Rattle.sync_values.specs.declared.value.ChainOp.TheVariants.{Plus, Minus, Times, And, Or}
 use Rattle.sync_values.specs.declared.value.Rel.{Rel}
-use Rattle.sync_values.specs.declared.value.Rel.TheVariants.{Less, LessEq, Greater, GreaterEq, Equal, Unequal}
+use Rattle.sync_values.specs.Relation.{related}
 
 -- what an expression gives at a moment: a value, its leftmost failure, or nothing where it evaluates a part that has no value
 pub data Answer : Type 0 where
@@ -61,24 +61,10 @@ inverted (Is (value.Bool b)) = Is (value.Bool (not b))
 inverted (Is (value.Int a)) = Absent
 inverted other = other
 
--- the first value is less than the second, with false below true
-abbrev pub below : Value → Value → Bool
-below (value.Int a) (value.Int b) = int_lt a b
-below (value.Bool false) (value.Bool true) = true
-below _ _ = false
-
-abbrev pub holds_between : Rel → Value → Value → Bool
-holds_between Less a b = below a b
-holds_between LessEq a b = not (below b a)
-holds_between Greater a b = below b a
-holds_between GreaterEq a b = not (below a b)
-holds_between Equal a b = if below a b then false else not (below b a)
-holds_between Unequal a b = if below a b then true else below b a
-
 -- a relation between two values of one type
 abbrev pub compared : Rel → Value → Value → Answer
-compared rel (value.Int a) (value.Int b) = Is (value.Bool (holds_between rel (value.Int a) (value.Int b)))
-compared rel (value.Bool a) (value.Bool b) = Is (value.Bool (holds_between rel (value.Bool a) (value.Bool b)))
+compared rel (value.Int a) (value.Int b) = Is (value.Bool (related rel (value.Int a) (value.Int b)))
+compared rel (value.Bool a) (value.Bool b) = Is (value.Bool (related rel (value.Bool a) (value.Bool b)))
 compared rel _ _ = Absent
 
 abbrev pub relation : Rel → Answer → Answer → Answer
