@@ -1,0 +1,5 @@
+pub mod Counter
+pub mod Instants
+pub mod NoClock
+pub mod Sampling
+pub mod ShiftAndHold
