@@ -2,5 +2,6 @@ pub mod Counter
 pub mod Each
 pub mod Listed
 pub mod NoClock
+pub mod Overflow
 pub mod Sampling
 pub mod ShiftAndHold

@@ -1,5 +1,6 @@
 pub mod Counter
 pub mod Instants
 pub mod NoClock
+pub mod Overflow
 pub mod Sampling
 pub mod ShiftAndHold

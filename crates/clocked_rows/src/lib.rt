@@ -5,6 +5,7 @@
 
 ghost use Rattle.clocked_rows.specs.Counter as counter;
 ghost use Rattle.clocked_rows.specs.NoClock as no_clock;
+ghost use Rattle.clocked_rows.specs.Overflow as overflow;
 ghost use Rattle.clocked_rows.specs.Sampling as sampling;
 ghost use Rattle.clocked_rows.specs.ShiftAndHold as shift_and_hold;
 
@@ -44,4 +45,13 @@ pub fn shift_and_hold_start()
     ensures meets { shift_and_hold.IsMet }
     ensures text { shift_and_hold.IsPrinted }
     ensures changed_cell { shift_and_hold.IsOtherRefused }
+{}
+
+/// A counter that starts one below the greatest Integer is this Integer at the instant 0, and at 1/2 its equation is
+/// the first fault: the value does not fit.
+#[tactic(auto, using(crate::proofs::Overflow::fault, crate::proofs::Overflow::printed, crate::proofs::Overflow::met_by_none))]
+pub fn counter_outgrows()
+    ensures fault { overflow.IsFault }
+    ensures text { overflow.IsPrinted }
+    ensures met_by_none { overflow.IsMetByNone }
 {}
