@@ -1,5 +1,5 @@
 -- What is asked of an assignment at a moment, name by name, site by site and equation by equation.
-use Rattle.std.proofs.Common.{◌≡◌, subst, ℕ, zero, suc, ◌+◌, Bool, true, false, List, [], ◌∷◌, Option, Some, None, arith}
+use Rattle.std.proofs.Common.{sym, ◌≡◌, subst, ℕ, zero, suc, ◌+◌, Bool, true, false, List, [], ◌∷◌, Option, Some, None, arith}
 use Rattle.std.specs.List.{slice_get}
 use Rattle.sync_values.specs.declared.value.Value.{Value}
 use Rattle.sync_values.specs.declared.value.Value.TheVariants as value
@@ -67,3 +67,10 @@ met_at s S m names others sites equations = record {
 -- sides with two values
 pub differ : (left right : Expr) (clause : Option ℕ) (views : Views) (a b : Value) → value_of left views ≡ Is a → value_of right views ≡ Is b → (a ≡ b → ⊥) → HasOneValue views (Valued left right clause) → ⊥
 differ left right clause views a b l r other (v, p, q) = other cc
+
+-- the same where ticks are known by a proof
+pub name_at : (s : Setting) (S : Assignment) (m x : ℕ) (name : FlatName) (ticks : Bool) → name_ticks s S x m ≡ ticks → InputIs s S m x name.input (moment_at s.instants m) → HasValueAtTicks name.kind ticks (S x m) → NameMeets s S m x name
+name_at s S m x name ticks t i h = (i, subst (λ z. HasValueAtTicks name.kind z (S x m)) (sym t) h)
+
+pub equation_at : (s : Setting) (S : Assignment) (m i : ℕ) (equation : Equation) (ticks : Bool) → equation_ticks s S i m ≡ ticks → IfCounts ticks (HasOneValue (views_at s S (class_of_equation s i) m) equation) → EquationMeets s S m i equation
+equation_at s S m i equation ticks t h = subst (λ z. IfCounts z (HasOneValue (views_at s S (class_of_equation s i) m) equation)) (sym t) h

@@ -1,5 +1,6 @@
 pub mod Counter
 pub mod Each
+pub mod EventClock
 pub mod Listed
 pub mod NoClock
 pub mod Overflow

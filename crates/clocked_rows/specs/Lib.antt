@@ -1,4 +1,5 @@
 pub mod Counter
+pub mod EventClock
 pub mod Instants
 pub mod NoClock
 pub mod Overflow

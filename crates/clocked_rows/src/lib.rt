@@ -4,6 +4,7 @@
 #![tactic(auto)]
 
 ghost use Rattle.clocked_rows.specs.Counter as counter;
+ghost use Rattle.clocked_rows.specs.EventClock as event_clock;
 ghost use Rattle.clocked_rows.specs.NoClock as no_clock;
 ghost use Rattle.clocked_rows.specs.Overflow as overflow;
 ghost use Rattle.clocked_rows.specs.Sampling as sampling;
@@ -54,4 +55,14 @@ pub fn counter_outgrows()
     ensures fault { overflow.IsFault }
     ensures text { overflow.IsPrinted }
     ensures met_by_none { overflow.IsMetByNone }
+{}
+
+/// An event clock ticks where its condition becomes true, not where it stays so, and a subsample of it by 2 at every
+/// second of these ticks.
+#[tactic(auto, using(crate::proofs::EventClock::instants, crate::proofs::EventClock::met, crate::proofs::EventClock::printed, crate::proofs::EventClock::other_refused))]
+pub fn event_clock_ticks_at_rises()
+    ensures instants { event_clock.HasInstants }
+    ensures meets { event_clock.IsMet }
+    ensures text { event_clock.IsPrinted }
+    ensures changed_cell { event_clock.IsOtherRefused }
 {}
