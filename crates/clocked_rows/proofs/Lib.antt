@@ -1,6 +1,7 @@
 pub mod Counter
 pub mod Each
 pub mod EventClock
+pub mod Interval
 pub mod Listed
 pub mod NoClock
 pub mod Overflow

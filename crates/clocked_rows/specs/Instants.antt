@@ -16,3 +16,6 @@ third = record { num = 1; den = 3; positive = lit< tt; lowest = ∣ (one-dvd 1, 
 
 abbrev pub two_thirds : Ratio
 two_thirds = record { num = 2; den = 3; positive = lit< tt; lowest = ∣ (one-dvd 2, one-dvd 3, λ d a b. dvd-sub d b a) ∣₁ }
+
+abbrev pub three_halves : Ratio
+three_halves = record { num = 3; den = 2; positive = lit< tt; lowest = ∣ (one-dvd 3, one-dvd 2, λ d a b. dvd-sub d a b) ∣₁ }

@@ -5,6 +5,7 @@
 
 ghost use Rattle.clocked_rows.specs.Counter as counter;
 ghost use Rattle.clocked_rows.specs.EventClock as event_clock;
+ghost use Rattle.clocked_rows.specs.Interval as interval;
 ghost use Rattle.clocked_rows.specs.NoClock as no_clock;
 ghost use Rattle.clocked_rows.specs.Overflow as overflow;
 ghost use Rattle.clocked_rows.specs.Sampling as sampling;
@@ -65,4 +66,13 @@ pub fn event_clock_ticks_at_rises()
     ensures meets { event_clock.IsMet }
     ensures text { event_clock.IsPrinted }
     ensures changed_cell { event_clock.IsOtherRefused }
+{}
+
+/// The interval of a periodic clock is its period, at the first tick too, and only the first tick is the first.
+#[tactic(auto, using(crate::proofs::Interval::instants, crate::proofs::Interval::met, crate::proofs::Interval::printed, crate::proofs::Interval::other_refused))]
+pub fn interval_is_the_period()
+    ensures instants { interval.HasInstants }
+    ensures meets { interval.IsMet }
+    ensures text { interval.IsPrinted }
+    ensures changed_cell { interval.IsOtherRefused }
 {}
