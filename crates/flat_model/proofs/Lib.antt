@@ -1,3 +1,4 @@
+pub mod Agreement
 pub mod Dependence
 pub mod Levels
 pub mod Values
