@@ -1,4 +1,5 @@
 pub mod Agreement
 pub mod Dependence
+pub mod GivenValues
 pub mod Levels
 pub mod Values
