@@ -15,7 +15,7 @@ use Rattle.flat_model.specs.Assignment.{Assignment, tick_before, value_at_tick, 
 use Rattle.flat_model.specs.Setting.{Setting, class_of_name, clock_of, start_of, unclocked_view, site_answer, is_true, is_false, rises, risings_before, clock_ticks, class_ticks, name_ticks, time_between, interval_at, view_at, views_at, class_of_equation}
 use Rattle.flat_model.specs.Meets.{MeetsAt, HasValueAtTicks, HasOneValue}
 use Rattle.flat_model.specs.Occurrences.{bare_count, held_count, converted_count}
-use Rattle.flat_model.proofs.Dependence.{AgreeOn, sample_count}
+use Rattle.flat_model.proofs.Dependence.{AgreeOn, sample_count, value_rests}
 
 -- two assignments have the same values before m, and up to m
 abbrev pub SameBefore : Assignment → Assignment → ℕ → Type 0
@@ -50,60 +50,82 @@ previous_same f g xs ys start k ticks values =
 
 -- the clocks
 
-site_views : Setting → ℕ → Views → Answer
-site_views s site views = answer_in (slice_get s.clocking.sites site)
-  where
-    answer_in : Option Expr → Answer
-    answer_in None = Absent
-    answer_in (Some condition) = value_of condition views
+answer_in : Views → Option Expr → Answer
+answer_in views None = Absent
+answer_in views (Some condition) = value_of condition views
 
-site_is : (s : Setting) (S : Assignment) (site k : ℕ) → site_answer s S site k ≡ site_views s site (λ back. unclocked_view S (k - back))
-unfolding site_views
+site_is : (s : Setting) (S : Assignment) (site k : ℕ) → site_answer s S site k ≡ answer_in (λ back. unclocked_view S (k - back)) (slice_get s.clocking.sites site)
+unfolding answer_in
 site_is s S site k = refl
 
 pub site_same : (s : Setting) (S T : Assignment) (site m k : ℕ) → SameUpTo S T m → k ≤ m → site_answer s S site k ≡ site_answer s T site k
 site_same s S T site m k same le =
     site_is s S site k
-    ∙ ap (site_views s site) (fun_ext (λ back. ap unclocked (fun_ext (λ x. same x (k - back) (omega arith)))))
+    ∙ ap (λ views. answer_in views (slice_get s.clocking.sites site)) (fun_ext (λ back. ap unclocked (fun_ext (λ x. same x (k - back) (omega arith)))))
     ∙ sym (site_is s T site k)
   where
     unclocked : (ℕ → Option Value) → View
     unclocked now = unclocked_view (λ x m. now x) 0
 
-pub rises_same : (s : Setting) (S T : Assignment) (site m k : ℕ) → SameUpTo S T m → k ≤ m → rises s S site k ≡ rises s T site k
-rises_same s S T site m zero same le = refl
-rises_same s S T site m (suc k) same le =
-    ap₂ (λ now earlier. is_true now && is_false earlier) (site_same s S T site m (suc k) same le) (site_same s S T site m k same (omega arith))
+-- the sites have the same answers at m
+abbrev pub SameSites : Setting → Assignment → Assignment → ℕ → Type 0
+SameSites s S T m = (site : ℕ) → site_answer s S site m ≡ site_answer s T site m
 
-risings_same : (s : Setting) (S T : Assignment) (site m k : ℕ) → SameUpTo S T m → k ≤ suc m → risings_before s S site k ≡ risings_before s T site k
-risings_same s S T site m zero same le = refl
-risings_same s S T site m (suc k) same le =
-    ap₂ (λ b n. if b then n + 1 else n) (rises_same s S T site m k same (omega arith)) (risings_same s S T site m k same (omega arith))
+answers_same : (condition : Option Expr) (v w : Views) → ((e : Expr) → condition ≡ Some e → AgreeOn e v w) → answer_in v condition ≡ answer_in w condition
+unfolding answer_in
+answers_same None v w agree = refl
+answers_same (Some e) v w agree = value_rests e v w (agree e refl)
 
-clock_ticks_same : (s : Setting) (S T : Assignment) (m k : ℕ) (moment : Option Moment) (clock : Clock) → SameUpTo S T m → k ≤ m → clock_ticks s S k moment clock ≡ clock_ticks s T k moment clock
-clock_ticks_same s S T m k None clock same le = refl
-clock_ticks_same s S T m k (Some Initial) clock same le = refl
-clock_ticks_same s S T m k (Some (At t)) (Periodic period start) same le = refl
-clock_ticks_same s S T m k (Some (At t)) (Event site factor shift) same le =
-    ap₂ (λ b n. b && nat_le shift n && (n - shift) % factor == 0) (rises_same s S T site m k same le) (risings_same s S T site m k same (omega arith))
+-- where the views of each condition agree
+pub sites_agree : (s : Setting) (S T : Assignment) (m : ℕ)
+    → ((site : ℕ) (e : Expr) → slice_get s.clocking.sites site ≡ Some e → AgreeOn e (λ back. unclocked_view S (m - back)) (λ back. unclocked_view T (m - back)))
+    → SameSites s S T m
+sites_agree s S T m agree site = site_is s S site m ∙ answers_same (slice_get s.clocking.sites site) _ _ (agree site) ∙ sym (site_is s T site m)
+
+before_up_to : (S T : Assignment) (m k : ℕ) → SameBefore S T m → k < m → SameUpTo S T k
+before_up_to S T m k same lt x j le = same x j (omega arith)
+
+rises_now : (s : Setting) (S T : Assignment) (site m : ℕ) → SameBefore S T m → SameSites s S T m → rises s S site m ≡ rises s T site m
+rises_now s S T site zero same sites = refl
+rises_now s S T site (suc k) same sites =
+    ap₂ (λ now earlier. is_true now && is_false earlier) (sites site) (site_same s S T site k k (before_up_to S T (suc k) k same (omega arith)) (omega arith))
+
+risings_now : (s : Setting) (S T : Assignment) (site m : ℕ) → SameBefore S T m → risings_before s S site m ≡ risings_before s T site m
+risings_now s S T site zero same = refl
+risings_now s S T site (suc k) same =
+    let earlier : SameBefore S T k = λ x j lt. same x j (omega arith) in
+    let sites : SameSites s S T k = λ other. site_same s S T other k k (before_up_to S T (suc k) k same (omega arith)) (omega arith) in
+    ap₂ (λ b n. if b then n + 1 else n) (rises_now s S T site k earlier sites) (risings_now s S T site k earlier)
+
+clock_ticks_now : (s : Setting) (S T : Assignment) (m : ℕ) (moment : Option Moment) (clock : Clock) → SameBefore S T m → SameSites s S T m → clock_ticks s S m moment clock ≡ clock_ticks s T m moment clock
+clock_ticks_now s S T m None clock same sites = refl
+clock_ticks_now s S T m (Some Initial) clock same sites = refl
+clock_ticks_now s S T m (Some (At t)) (Periodic period start) same sites = refl
+clock_ticks_now s S T m (Some (At t)) (Event site factor shift) same sites =
+    ap₂ (λ b n. b && nat_le shift n && (n - shift) % factor == 0) (rises_now s S T site m same sites) (risings_now s S T site m same)
 
 ticks_in : Setting → Assignment → ℕ → Option Clock → Bool
 ticks_in s S k None = false
 ticks_in s S k (Some clock) = clock_ticks s S k (moment_at s.instants k) clock
 
-ticks_in_same : (s : Setting) (S T : Assignment) (m k : ℕ) (clock : Option Clock) → SameUpTo S T m → k ≤ m → ticks_in s S k clock ≡ ticks_in s T k clock
+ticks_in_now : (s : Setting) (S T : Assignment) (m : ℕ) (clock : Option Clock) → SameBefore S T m → SameSites s S T m → ticks_in s S m clock ≡ ticks_in s T m clock
 unfolding ticks_in
-ticks_in_same s S T m k None same le = refl
-ticks_in_same s S T m k (Some clock) same le = clock_ticks_same s S T m k (moment_at s.instants k) clock same le
+ticks_in_now s S T m None same sites = refl
+ticks_in_now s S T m (Some clock) same sites = clock_ticks_now s S T m (moment_at s.instants m) clock same sites
 
 ticks_are : (s : Setting) (S : Assignment) (class k : ℕ) → class_ticks s S (Some class) k ≡ ticks_in s S k (slice_get s.clocking.clocks class)
 unfolding ticks_in
 ticks_are s S class k = refl
 
+-- ticks rest on what comes before, and on the sites
+pub class_ticks_now : (s : Setting) (S T : Assignment) (class : Option ℕ) (m : ℕ) → SameBefore S T m → SameSites s S T m → class_ticks s S class m ≡ class_ticks s T class m
+class_ticks_now s S T None m same sites = refl
+class_ticks_now s S T (Some class) m same sites =
+    ticks_are s S class m ∙ ticks_in_now s S T m (slice_get s.clocking.clocks class) same sites ∙ sym (ticks_are s T class m)
+
 pub class_ticks_same : (s : Setting) (S T : Assignment) (class : Option ℕ) (m k : ℕ) → SameUpTo S T m → k ≤ m → class_ticks s S class k ≡ class_ticks s T class k
-class_ticks_same s S T None m k same le = refl
-class_ticks_same s S T (Some class) m k same le =
-    ticks_are s S class k ∙ ticks_in_same s S T m k (slice_get s.clocking.clocks class) same le ∙ sym (ticks_are s T class k)
+class_ticks_same s S T class m k same le =
+    class_ticks_now s S T class k (λ x j lt. same x j (omega (arith, lt, le))) (λ site. site_same s S T site m k same le)
 
 interval_same : (s : Setting) (f g : ℕ → Bool) (k : ℕ) (clock : Option Clock) → ((j : ℕ) → j < k → f j ≡ g j) → interval_at s f k clock ≡ interval_at s g k clock
 interval_same s f g k None same = refl
@@ -156,15 +178,12 @@ last_same f g xs ys start m now value ticks values = by_tick (f m) refl
 abbrev pub SameNow : Setting → Assignment → Assignment → ℕ → ℕ → Type 0
 SameNow s S T m x = (name_ticks s S x m ≡ name_ticks s T x m) × (name_ticks s S x m ≡ true → S x m ≡ T x m)
 
-up_to : (S T : Assignment) (m k : ℕ) → SameBefore S T m → k < m → SameUpTo S T k
-up_to S T m k same lt x j le = same x j (omega arith)
-
 ticks_earlier : (s : Setting) (S T : Assignment) (class : Option ℕ) (m j : ℕ) → SameBefore S T m → j < m → class_ticks s S class j ≡ class_ticks s T class j
-ticks_earlier s S T class m j same lt = class_ticks_same s S T class j j (up_to S T m j same lt) (omega arith)
+ticks_earlier s S T class m j same lt = class_ticks_same s S T class j j (before_up_to S T m j same lt) (omega arith)
 
 sampled_same : (s : Setting) (S T : Assignment) (class : Option ℕ) (m : ℕ) → SameBefore S T m → (m ≡ 0 → ⊥) → before (views_at s S class m) ≡ before (views_at s T class m)
 sampled_same s S T class zero same later = absurd (later refl)
-sampled_same s S T class (suc k) same later = fun_ext (λ back. view_same s S T class k (suc k - (back + 1)) (up_to S T (suc k) k same (omega arith)) (omega arith))
+sampled_same s S T class (suc k) same later = fun_ext (λ back. view_same s S T class k (suc k - (back + 1)) (before_up_to S T (suc k) k same (omega arith)) (omega arith))
 
 -- the views agree on an expression where the names that stand in it are the same; at the first moment no `sample` may stand in it
 pub views_agree : (s : Setting) (S T : Assignment) (class : Option ℕ) (m : ℕ) (e : Expr) → SameBefore S T m
