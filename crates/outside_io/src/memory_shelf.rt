@@ -1,8 +1,9 @@
 //! Files in memory.
 ghost use Rattle.std.specs.Prelude.{◌≡◌, ◌≢◌, ◌<◌, ◌≤◌, ◌+◌, ◌-◌, ◌^◌, List, Option, Some, None, ℕ, false, length, min, option_map};
-ghost use Rattle.outside_io.specs.Files.{File, first_named};
+ghost use Rattle.outside_io.specs.Counts.{Rose};
+ghost use Rattle.outside_io.specs.Files.{File, first_named, told};
+ghost use Rattle.outside_io.specs.FilesInMemory.{after_read, read_answer, faults_of, files_of, part_of_file};
 ghost use Rattle.outside_io.specs.Reads.{Gives};
-ghost use Rattle.outside_io.specs.Memory.{files_of};
 
 use crate::shelf::{Read, Shelf};
 use std::marker::Model;
@@ -20,9 +21,9 @@ pub struct MemShelf {
 
 impl Model for MemShelf {
     ghost use Rattle.std.specs.Prelude.{◌<◌};
-    ghost use Rattle.outside_io.specs.Memory.{MemoryFiles, files_of};
+    ghost use Rattle.outside_io.specs.FilesInMemory.{MemoryShelf, files_of};
 
-    ghost Value = { MemoryFiles };
+    ghost Value = { MemoryShelf };
 
     ghost view = { λ s. record { files = files_of s.files.items; chunk = s.chunk; failing = s.failing.items; reads = s.reads; listed = s.listed; unheld = s.unheld } };
 
@@ -48,15 +49,23 @@ impl MemShelf {
 }
 
 impl Shelf for MemShelf {
-    ghost use Rattle.outside_io.specs.Memory.{faults_of};
-
     ghost held = { λ s. Some s.files };
 
     ghost gives_empty = { λ s. false };
 
     ghost faults = { faults_of };
 
-    fn read(&mut self, name: &str, at: u64, into: &mut [u8]) -> Read {
+    fn read(&mut self, name: &str, at: u64, into: &mut [u8]) -> Read
+        requires { 0 < length into.old }
+        ensures answer { result ≡ read_answer self.old name.now at (length into.old) }
+        ensures after { self.new ≡ after_read self.old name.now }
+
+        // As each shelf does.
+        ensures gives { Gives (told (Some self.old.files) false name.now) at into.new result }
+        ensures failed { result ≡ Read.Failed → Rose (faults_of self.old name.now) (faults_of self.new name.now) }
+        ensures counts { (other : List ℕ) → faults_of self.old other ≤ faults_of self.new other }
+        ensures holds { Some self.new.files ≡ Some self.old.files }
+    {
         self.reads = self.reads.saturating_add(1);
         if self.failing.contains(&self.reads) {
             self.listed = self.listed.saturating_add(1);
@@ -89,7 +98,7 @@ fn part_of(file: &[u8], at: u64, chunk: usize, into: &mut [u8]) -> Read
     requires chunk { 0 < chunk }
     requires room { 0 < length into.old }
     ensures gives { Gives (File file.now) at into.new result }
-    ensures some { result ≢ Read.Failed }
+    ensures answer { result ≡ part_of_file at (min chunk (length into.old)) (Some file.now) }
 {
     let start = at as usize;
     if start >= file.len() {

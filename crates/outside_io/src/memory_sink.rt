@@ -1,7 +1,8 @@
 //! A text in memory.
 ghost use Rattle.std.specs.Prelude.{◌≡◌, ◌<◌, ◌≤◌, ◌+◌, ◌++◌, ◌||◌, [], List, ℕ, Some, length, take, min, IfOk, nat_lt, if◌then◌else◌};
-ghost use Rattle.outside_io.specs.Counts.{next, Rose};
+ghost use Rattle.outside_io.specs.Counts.{Rose};
 ghost use Rattle.outside_io.specs.Puts.{Takes};
+ghost use Rattle.outside_io.specs.TextInMemory.{after_put, put_answer};
 
 use crate::no_memory::NoMemory;
 use crate::sink::{Put, Sink};
@@ -21,9 +22,9 @@ pub struct MemSink {
 
 impl Model for MemSink {
     ghost use Rattle.std.specs.Prelude.{◌<◌, ◌≤◌, vec_len, vec_capacity};
-    ghost use Rattle.outside_io.specs.Memory.{MemoryText};
+    ghost use Rattle.outside_io.specs.TextInMemory.{MemorySink};
 
-    ghost Value = { MemoryText };
+    ghost Value = { MemorySink };
 
     ghost view = { λ s. record { text = s.text.items; room = s.room; chunk = s.chunk; failing = s.failing.items; puts = s.puts; faults = s.faults } };
 
@@ -67,7 +68,16 @@ impl Sink for MemSink {
 
     ghost faults = { λ s. s.faults };
 
-    fn put(&mut self, piece: &[u8]) -> Put {
+    fn put(&mut self, piece: &[u8]) -> Put
+        requires { 0 < length piece.now }
+        ensures answer { result ≡ put_answer self.old piece.now }
+        ensures after { self.new ≡ after_put self.old piece.now }
+
+        // As each sink does.
+        ensures takes { Takes piece.now (Some self.old.text) (Some self.new.text) result }
+        ensures failed { result ≡ Put.Failed → Rose self.old.faults self.new.faults }
+        ensures counts { self.old.faults ≤ self.new.faults }
+    {
         self.puts = self.puts.saturating_add(1);
         let count = self.chunk.min(piece.len());
         if self.failing.contains(&self.puts) || count > self.room - self.text.len() {

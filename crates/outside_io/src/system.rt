@@ -1,8 +1,10 @@
 //! The files, the standard output and the standard error of the machine. What they give and receive
 //! is not told, and no more is known of it than the counts that the machine reports.
-ghost use Rattle.std.specs.Prelude.{◌≡◌, ◌<◌, ◌≤◌, None, false, ℕ, length, IfOk};
-ghost use Rattle.outside_io.specs.Counts.{next, Rose};
-ghost use Rattle.outside_io.specs.Puts.{Takes};
+ghost use Rattle.std.specs.Prelude.{◌≡◌, ◌<◌, ◌≤◌, None, false, List, ℕ, length, IfOk};
+ghost use Rattle.outside_io.specs.Counts.{Rose};
+ghost use Rattle.outside_io.specs.Files.{Untold};
+ghost use Rattle.outside_io.specs.Puts.{Takes, faults_after_put};
+ghost use Rattle.outside_io.specs.Reads.{Gives, faults_after_read};
 
 use crate::shelf::{Read, Shelf};
 use crate::sink::{Put, Sink};
@@ -39,7 +41,15 @@ impl<'a, R: Files> Shelf for FileShelf<'a, R> {
 
     ghost faults = { λ s name. s };
 
-    fn read(&mut self, name: &str, at: u64, into: &mut [u8]) -> Read {
+    fn read(&mut self, name: &str, at: u64, into: &mut [u8]) -> Read
+        requires { 0 < length into.old }
+        ensures count { self.new ≡ faults_after_read self.old result }
+
+        // As each shelf does.
+        ensures gives { Gives Untold at into.new result }
+        ensures failed { result ≡ Read.Failed → Rose self.old self.new }
+        ensures counts { (other : List ℕ) → self.old ≤ self.new }
+    {
         match read_at(self.rt, name, at, into) {
             Ok(0) => Read::End,
             Ok(count) => Read::Bytes(count),
@@ -86,7 +96,15 @@ impl<W: Write + Drop> Sink for OutSink<W> {
 
     ghost faults = { λ s. s };
 
-    fn put(&mut self, piece: &[u8]) -> Put {
+    fn put(&mut self, piece: &[u8]) -> Put
+        requires { 0 < length piece.now }
+        ensures count { self.new ≡ faults_after_put self.old result }
+
+        // As each sink does.
+        ensures takes { Takes piece.now None None result }
+        ensures failed { result ≡ Put.Failed → Rose self.old self.new }
+        ensures counts { self.old ≤ self.new }
+    {
         write_some(&mut self.inner, piece, &mut self.faults)
     }
 }
@@ -117,7 +135,15 @@ impl<W: Write + Drop> Sink for ErrSink<W> {
 
     ghost faults = { λ s. s };
 
-    fn put(&mut self, piece: &[u8]) -> Put {
+    fn put(&mut self, piece: &[u8]) -> Put
+        requires { 0 < length piece.now }
+        ensures count { self.new ≡ faults_after_put self.old result }
+
+        // As each sink does.
+        ensures takes { Takes piece.now None None result }
+        ensures failed { result ≡ Put.Failed → Rose self.old self.new }
+        ensures counts { self.old ≤ self.new }
+    {
         write_some(&mut self.inner, piece, &mut self.faults)
     }
 }
@@ -126,7 +152,8 @@ impl<W: Write + Drop> Sink for ErrSink<W> {
 fn write_some<W: Write>(inner: &mut W, piece: &[u8], faults: &mut u64) -> Put
     requires { 0 < length piece.now }
     ensures takes { Takes piece.now None None result }
-    ensures failed { result ≡ Put.Failed → faults.new ≡ next faults.old }
+    ensures count { faults.new ≡ faults_after_put faults.old result }
+    ensures failed { result ≡ Put.Failed → Rose faults.old faults.new }
     ensures counts { faults.old ≤ faults.new }
 {
     match inner.write(piece) {
