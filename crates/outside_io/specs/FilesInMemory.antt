@@ -20,12 +20,18 @@ pub record MemoryShelf : Type 0 where
   pub listed : ℕ
   pub unheld : ℕ
 
+-- a shelf that was not read yet
+abbrev pub new_shelf : Files → ℕ → List ℕ → MemoryShelf
+new_shelf files chunk failing =
+    record { files = files; chunk = chunk; failing = failing; reads = 0; listed = 0; unheld = 0 }
+
 -- the faults of a name with this file or none
 abbrev pub faults_at : ℕ → ℕ → Option (List ℕ) → ℕ
 faults_at listed unheld (Some file) = listed
 faults_at listed unheld None = min (listed + unheld) (2 ^ 64 - 1)
 
--- the faults of a name: the reads that failed as they were to, and for a name that is not held also the reads of such names
+-- the faults of a name: the reads that failed as they were to, and the reads of names that are not held
+-- where it is such a name
 abbrev pub faults_of : MemoryShelf → List ℕ → ℕ
 faults_of shelf name = faults_at shelf.listed shelf.unheld (first_named name shelf.files)
 
@@ -36,7 +42,10 @@ part_of_file at most (Some file) = if nat_le (length file) at then End else Byte
 
 -- what a read of a name from a place on into a buffer of this length answers
 abbrev pub read_answer : MemoryShelf → List ℕ → ℕ → ℕ → Read
-read_answer shelf name at len = if is_listed shelf.failing (next shelf.reads) then Failed else part_of_file at (min shelf.chunk len) (first_named name shelf.files)
+read_answer shelf name at len =
+    if is_listed shelf.failing (next shelf.reads)
+    then Failed
+    else part_of_file at (min shelf.chunk len) (first_named name shelf.files)
 
 -- the number of reads of names that are not held, after one of this file or none
 abbrev pub unheld_after : ℕ → Option (List ℕ) → ℕ

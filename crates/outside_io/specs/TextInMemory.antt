@@ -1,5 +1,5 @@
 -- A sink in memory.
-use Rattle.std.specs.Prelude.{ℕ, ◌+◌, ◌++◌, ◌||◌, min, Bool, List, length, take, nat_lt, if◌then◌else◌}
+use Rattle.std.specs.Prelude.{ℕ, ◌+◌, ◌++◌, ◌||◌, min, Bool, List, [], length, take, nat_lt, if◌then◌else◌}
 use Rattle.outside_io.specs.Counts.{next, is_listed}
 use Rattle.outside_io.specs.declared.sink.Put.{Put}
 use Rattle.outside_io.specs.declared.sink.Put.TheVariants.{Taken, Failed}
@@ -13,6 +13,11 @@ pub record MemorySink : Type 0 where
   pub failing : List ℕ
   pub puts : ℕ
   pub faults : ℕ
+
+-- a sink without text, on which nothing was put yet
+abbrev pub new_sink : ℕ → ℕ → List ℕ → MemorySink
+new_sink room chunk failing =
+    record { text = []; room = room; chunk = chunk; failing = failing; puts = 0; faults = 0 }
 
 -- how many bytes of a piece a put takes, where it does not fail
 abbrev pub share : MemorySink → List ℕ → ℕ

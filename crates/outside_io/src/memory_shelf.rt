@@ -2,7 +2,7 @@
 ghost use Rattle.std.specs.Prelude.{◌≡◌, ◌≢◌, ◌<◌, ◌≤◌, ◌+◌, ◌-◌, ◌^◌, List, Option, Some, None, ℕ, false, length, min, option_map};
 ghost use Rattle.outside_io.specs.Counts.{Rose};
 ghost use Rattle.outside_io.specs.Files.{File, first_named, told};
-ghost use Rattle.outside_io.specs.FilesInMemory.{after_read, read_answer, faults_of, files_of, part_of_file};
+ghost use Rattle.outside_io.specs.FilesInMemory.{after_read, faults_of, files_of, new_shelf, part_of_file, read_answer};
 ghost use Rattle.outside_io.specs.Reads.{Gives};
 
 use crate::shelf::{Read, Shelf};
@@ -25,7 +25,14 @@ impl Model for MemShelf {
 
     ghost Value = { MemoryShelf };
 
-    ghost view = { λ s. record { files = files_of s.files.items; chunk = s.chunk; failing = s.failing.items; reads = s.reads; listed = s.listed; unheld = s.unheld } };
+    ghost view = { λ s. record {
+      files = files_of s.files.items;
+      chunk = s.chunk;
+      failing = s.failing.items;
+      reads = s.reads;
+      listed = s.listed;
+      unheld = s.unheld;
+    } };
 
     ghost invariant = { λ s. 0 < s.chunk };
 }
@@ -35,7 +42,7 @@ impl MemShelf {
     /// numbers from 1 are in `failing` fail.
     pub fn new(files: Vec<(String, Vec<u8>)>, chunk: usize, failing: Vec<u64>) -> MemShelf
         requires { 0 < chunk }
-        ensures { result ≡ record { files = files_of files.items; chunk = chunk; failing = failing.items; reads = 0; listed = 0; unheld = 0 } }
+        ensures { result ≡ new_shelf (files_of files.items) chunk failing.items }
     {
         MemShelf {
             files,
@@ -62,7 +69,8 @@ impl Shelf for MemShelf {
 
         // As each shelf does.
         ensures gives { Gives (told (Some self.old.files) false name.now) at into.new result }
-        ensures failed { result ≡ Read.Failed → Rose (faults_of self.old name.now) (faults_of self.new name.now) }
+        ensures failed { result ≡ Read.Failed →
+            Rose (faults_of self.old name.now) (faults_of self.new name.now) }
         ensures counts { (other : List ℕ) → faults_of self.old other ≤ faults_of self.new other }
         ensures holds { Some self.new.files ≡ Some self.old.files }
     {

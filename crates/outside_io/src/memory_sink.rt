@@ -2,7 +2,7 @@
 ghost use Rattle.std.specs.Prelude.{◌≡◌, ◌<◌, ◌≤◌, ◌+◌, ◌++◌, ◌||◌, [], List, ℕ, Some, length, take, min, IfOk, nat_lt, if◌then◌else◌};
 ghost use Rattle.outside_io.specs.Counts.{Rose};
 ghost use Rattle.outside_io.specs.Puts.{Takes};
-ghost use Rattle.outside_io.specs.TextInMemory.{after_put, put_answer};
+ghost use Rattle.outside_io.specs.TextInMemory.{after_put, new_sink, put_answer};
 
 use crate::no_memory::NoMemory;
 use crate::sink::{Put, Sink};
@@ -26,9 +26,17 @@ impl Model for MemSink {
 
     ghost Value = { MemorySink };
 
-    ghost view = { λ s. record { text = s.text.items; room = s.room; chunk = s.chunk; failing = s.failing.items; puts = s.puts; faults = s.faults } };
+    ghost view = { λ s. record {
+      text = s.text.items;
+      room = s.room;
+      chunk = s.chunk;
+      failing = s.failing.items;
+      puts = s.puts;
+      faults = s.faults;
+    } };
 
-    ghost invariant = { λ s. (0 < s.chunk) × (vec_len s.text ≤ s.room) × (s.room ≤ vec_capacity s.text) };
+    ghost invariant = { λ s.
+        (0 < s.chunk) × (vec_len s.text ≤ s.room) × (s.room ≤ vec_capacity s.text) };
 }
 
 impl MemSink {
@@ -42,7 +50,7 @@ impl MemSink {
         failing: Vec<u64>,
     ) -> Result<MemSink, NoMemory>
         requires { 0 < chunk }
-        ensures { IfOk result (λ s. s ≡ record { text = []; room = room; chunk = chunk; failing = failing.items; puts = 0; faults = 0 }) }
+        ensures { IfOk result (λ s. s ≡ new_sink room chunk failing.items) }
     {
         let text = Vec::with_capacity(alloc, room)?;
         Ok(MemSink {
