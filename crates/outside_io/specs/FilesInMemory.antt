@@ -1,5 +1,5 @@
 -- A shelf in memory.
-use Rattle.std.specs.Prelude.{ℕ, ◌+◌, ◌-◌, ◌^◌, min, List, length, map, Option, Some, None, nat_le, if◌then◌else◌, string_bytes, String, Vec}
+use Rattle.std.specs.Prelude.{ℕ, ◌+◌, ◌-◌, ◌^◌, min, Bool, true, false, List, length, map, Option, Some, None, nat_le, if◌then◌else◌, string_bytes, String, Vec}
 use Rattle.std.specs.Global.{Global}
 use Rattle.outside_io.specs.Counts.{next, is_listed}
 use Rattle.outside_io.specs.Files.{Files, first_named}
@@ -47,14 +47,21 @@ read_answer shelf name at len =
     then Failed
     else part_of_file at (min shelf.chunk len) (first_named name shelf.files)
 
--- the number of reads of names that are not held, after one of this file or none
+-- the count of reads of names that are not held, after one of a name with this file or none
 abbrev pub unheld_after : ℕ → Option (List ℕ) → ℕ
 unheld_after unheld (Some file) = unheld
 unheld_after unheld None = next unheld
 
+-- the count of reads that failed as they were to, after one that was to fail or not
+abbrev pub listed_after : ℕ → Bool → ℕ
+listed_after listed true = next listed
+listed_after listed false = listed
+
 -- the shelf after a read of a name
 abbrev pub after_read : MemoryShelf → List ℕ → MemoryShelf
 after_read shelf name =
-    if is_listed shelf.failing (next shelf.reads)
-    then record shelf { reads = next shelf.reads; listed = next shelf.listed }
-    else record shelf { reads = next shelf.reads; unheld = unheld_after shelf.unheld (first_named name shelf.files) }
+    record shelf {
+      reads = next shelf.reads;
+      listed = listed_after shelf.listed (is_listed shelf.failing (next shelf.reads));
+      unheld = unheld_after shelf.unheld (first_named name shelf.files);
+    }

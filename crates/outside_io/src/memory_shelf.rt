@@ -75,16 +75,17 @@ impl Shelf for MemShelf {
         ensures holds { Some self.new.files ≡ Some self.old.files }
     {
         self.reads = self.reads.saturating_add(1);
+        let file = file_of(self.files.as_slice(), name);
+        if file.is_none() {
+            self.unheld = self.unheld.saturating_add(1);
+        }
         if self.failing.contains(&self.reads) {
             self.listed = self.listed.saturating_add(1);
             return Read::Failed;
         }
-        match file_of(self.files.as_slice(), name) {
+        match file {
             Some(file) => part_of(file, at, self.chunk, into),
-            None => {
-                self.unheld = self.unheld.saturating_add(1);
-                Read::Failed
-            }
+            None => Read::Failed,
         }
     }
 }
