@@ -1,5 +1,5 @@
 //! Files in memory.
-ghost use Rattle.std.specs.Prelude.{◌≡◌, ◌≢◌, ◌<◌, ◌≤◌, ◌+◌, ◌-◌, ◌^◌, List, Option, Some, None, ℕ, false, length, min, option_map};
+ghost use Rattle.std.specs.Prelude.{◌≡◌, ◌<◌, ◌≤◌, List, ℕ, Some, false, length, min, option_map};
 ghost use Rattle.outside_io.specs.Counts.{Rose};
 ghost use Rattle.outside_io.specs.Files.{File, first_named, told};
 ghost use Rattle.outside_io.specs.FilesInMemory.{after_read, faults_of, files_of, new_shelf, part_of_file, read_answer};

@@ -1,5 +1,5 @@
 //! A text in memory.
-ghost use Rattle.std.specs.Prelude.{◌≡◌, ◌<◌, ◌≤◌, ◌+◌, ◌++◌, ◌||◌, [], List, ℕ, Some, length, take, min, IfOk, nat_lt, if◌then◌else◌};
+ghost use Rattle.std.specs.Prelude.{◌≡◌, ◌<◌, ◌≤◌, Some, length, IfOk};
 ghost use Rattle.outside_io.specs.Counts.{Rose};
 ghost use Rattle.outside_io.specs.Puts.{Takes};
 ghost use Rattle.outside_io.specs.TextInMemory.{after_put, new_sink, put_answer};

@@ -13,7 +13,8 @@ use std::marker::Model;
 use std::rt::Files;
 use std::{fs, io};
 
-/// The files of the machine. One count of faults serves every name.
+/// The files of the machine. A read that the machine refuses is a fault, and one count of faults
+/// serves every name.
 #[derive(Drop)]
 pub struct FileShelf<'a, R: Files> {
     rt: &'a R,
@@ -27,6 +28,7 @@ impl<'a, R: Files> Model for FileShelf<'a, R> {
 }
 
 impl<'a, R: Files> FileShelf<'a, R> {
+    /// The files that this runtime reaches, with no fault counted yet.
     pub fn new(rt: &'a R) -> FileShelf<'a, R>
         ensures { result ≡ 0 }
     {
@@ -61,7 +63,7 @@ impl<'a, R: Files> Shelf for FileShelf<'a, R> {
     }
 }
 
-/// Reads from a place of a file on. No file is kept open, so a shelf takes no memory.
+/// Reads from a place of a file on. No file is kept open, so that a shelf takes no memory.
 fn read_at<R: Files>(rt: &R, name: &str, at: u64, into: &mut [u8]) -> io::Result<usize>
     ensures { IfOk result (λ count. count ≤ length into.new) }
 {
@@ -70,7 +72,7 @@ fn read_at<R: Files>(rt: &R, name: &str, at: u64, into: &mut [u8]) -> io::Result
     file.read(into)
 }
 
-/// The standard output of the machine.
+/// The standard output of the machine. A write that fails, or that takes nothing, is a fault.
 #[derive(Drop)]
 pub struct OutSink<W: Write + Drop> {
     inner: W,
@@ -84,6 +86,7 @@ impl<W: Write + Drop> Model for OutSink<W> {
 }
 
 impl<W: Write + Drop> OutSink<W> {
+    /// Writes to the standard output, which is passed as `inner`. No fault is counted yet.
     pub fn new(inner: W) -> OutSink<W>
         ensures { result ≡ 0 }
     {
@@ -109,7 +112,7 @@ impl<W: Write + Drop> Sink for OutSink<W> {
     }
 }
 
-/// The standard error of the machine.
+/// The standard error of the machine. A write that fails, or that takes nothing, is a fault.
 #[derive(Drop)]
 pub struct ErrSink<W: Write + Drop> {
     inner: W,
@@ -123,6 +126,7 @@ impl<W: Write + Drop> Model for ErrSink<W> {
 }
 
 impl<W: Write + Drop> ErrSink<W> {
+    /// Writes to the standard error, which is passed as `inner`. No fault is counted yet.
     pub fn new(inner: W) -> ErrSink<W>
         ensures { result ≡ 0 }
     {
@@ -148,7 +152,7 @@ impl<W: Write + Drop> Sink for ErrSink<W> {
     }
 }
 
-/// Writes the first bytes of a piece. It is a fault too where nothing of the piece is taken.
+/// Writes the first bytes of a piece, and counts a write that fails or takes nothing.
 fn write_some<W: Write>(inner: &mut W, piece: &[u8], faults: &mut u64) -> Put
     requires { 0 < length piece.now }
     ensures takes { Takes piece.now None None result }

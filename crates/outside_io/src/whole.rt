@@ -29,7 +29,7 @@ impl From<AllocError> for ReadEnd {
     }
 }
 
-/// Reads a file of at most `limit` bytes whole.
+/// Reads a file of at most `limit` bytes whole. The first read that fails ends it.
 pub fn read_whole<S: Shelf>(
     alloc: Global,
     shelf: &mut S,
