@@ -47,33 +47,33 @@ module _ (parents : List ℕ) (at : ℕ) (falls : Falls parents) (within : at < 
 
   halved_falls : Falls halved
   halved_falls x = elim (cases_eq x at) [
-      inl same ↦ let once = falls at in let twice = falls (parent_of parents at) in rw (same, halved_at) (omega arith)
+    | inl same ↦ let once = falls at in let twice = falls (parent_of parents at) in rw (same, halved_at) (omega arith)
     | inr other ↦ rw (halved_past x other) (falls x)
   ]
 
   halved_onward : (x y : ℕ) → parent_of parents x ≡ y → AreLinked halved x y
   halved_onward x y is = elim (cases_eq x at) [
-      inl same ↦ subst (λ z. AreLinked halved z y) (sym same) (subst (AreLinked halved at) (ap (parent_of parents) (sym same) ∙ is) up)
+    | inl same ↦ subst (λ z. AreLinked halved z y) (sym same) (subst (AreLinked halved at) (ap (parent_of parents) (sym same) ∙ is) up)
     | inr other ↦ link halved x y (halved_past x other ∙ is)
   ]
     where
       up : AreLinked halved at (parent_of parents at)
       up = elim (cases_eq (parent_of parents at) at) [
-          inl root ↦ subst (AreLinked halved at) (sym root) (stay at)
+        | inl root ↦ subst (AreLinked halved at) (sym root) (stay at)
         | inr other ↦ forward at (parent_of parents (parent_of parents at)) (parent_of parents at) halved_at
             (backward (parent_of parents (parent_of parents at)) (parent_of parents at) (parent_of parents at) (halved_past (parent_of parents at) other) (stay (parent_of parents at)))
       ]
 
   halved_back : (x y : ℕ) → parent_of halved x ≡ y → AreLinked parents x y
   halved_back x y is = elim (cases_eq x at) [
-      inl same ↦ subst (λ z. AreLinked parents z y) (sym same)
+    | inl same ↦ subst (λ z. AreLinked parents z y) (sym same)
         (forward at (parent_of parents at) y refl (link parents (parent_of parents at) y (sym halved_at ∙ ap (parent_of halved) (sym same) ∙ is)))
     | inr other ↦ link parents x y (sym (halved_past x other) ∙ is)
   ]
 
   halved_roots : (x : ℕ) → IsRoot parents x → IsRoot halved x
   halved_roots x root = elim (cases_eq x at) [
-      inl same ↦ rw (same, halved_at) (let at_root : parent_of parents at ≡ at = rw same at root in rw (at_root, at_root) refl)
+    | inl same ↦ rw (same, halved_at) (let at_root : parent_of parents at ≡ at = rw same at root in rw (at_root, at_root) refl)
     | inr other ↦ halved_past x other ∙ root
   ]
 
@@ -88,13 +88,13 @@ module _ (parents : List ℕ) (at : ℕ) (falls : Falls parents) (within : at < 
   -- the numbers right under a root are one more
   pub flat_more : ((x : ℕ) → x < at → IsRoot parents (parent_of parents x)) → (x : ℕ) → x < at + 1 → IsRoot halved (parent_of halved x)
   flat_more flat x below = elim (cases_eq x at) [
-      inl same ↦ subst (λ z. IsRoot halved (parent_of halved z)) (sym same) (rw halved_at (halved_roots (parent_of parents (parent_of parents at)) top))
+    | inl same ↦ subst (λ z. IsRoot halved (parent_of halved z)) (sym same) (rw halved_at (halved_roots (parent_of parents (parent_of parents at)) top))
     | inr other ↦ rw (halved_past x other) (halved_roots (parent_of parents x) (flat x (omega arith)))
   ]
     where
       top : IsRoot parents (parent_of parents (parent_of parents at))
       top = elim (cases_eq (parent_of parents at) at) [
-          inl root ↦ rw (root, root, root) refl
+        | inl root ↦ rw (root, root, root) refl
         | inr other ↦ flat (parent_of parents at) (let low = falls at in omega arith)
       ]
 
@@ -116,7 +116,7 @@ pub climb_links : (now : List ℕ) (start at above : ℕ) → Falls now → at <
 climb_links now start at above falls within is linked =
     let new : List ℕ = set now at (parent_of now (parent_of now at)) in
     rw is (follow (λ x y. parent_of new x ≡ y) start at (parent_of now (parent_of now at)) ((halved_keeps now at falls within).onward start at linked)
-      (link new at (parent_of now (parent_of now at)) (set_same now at (parent_of now (parent_of now at)) within)))
+    (link new at (parent_of now (parent_of now at)) (set_same now at (parent_of now (parent_of now at)) within)))
 
 -- a root that is hung under another number below it
 module _ (parents : List ℕ) (high low : ℕ) (falls : Falls parents) (root : IsRoot parents high) (within : high < length parents) (under : low ≤ high) where
@@ -128,19 +128,19 @@ module _ (parents : List ℕ) (high low : ℕ) (falls : Falls parents) (root : I
 
   pub hung_falls : Falls (set parents high low)
   hung_falls x = elim (cases_eq x high) [
-      inl same ↦ rw (same, set_same parents high low within) under
+    | inl same ↦ rw (same, set_same parents high low within) under
     | inr other ↦ rw (hung_past x other) (falls x)
   ]
 
   hung_onward : (x y : ℕ) → AreLinked parents x y → AreLinked hung x y
   hung_onward = refined (λ x y. parent_of parents x ≡ y) (λ x y. parent_of hung x ≡ y) (λ x y is. elim (cases_eq x high) [
-      inl same ↦ let there : x ≡ y = same ∙ sym root ∙ ap (parent_of parents) (sym same) ∙ is in subst (AreLinked hung x) there (stay x)
+    | inl same ↦ let there : x ≡ y = same ∙ sym root ∙ ap (parent_of parents) (sym same) ∙ is in subst (AreLinked hung x) there (stay x)
     | inr other ↦ link hung x y (hung_past x other ∙ is)
   ])
 
   hung_back : (Finer : ℕ → ℕ → Type 0) → ((x y : ℕ) → AreLinked parents x y → Chain Finer x y) → Chain Finer high low → (x y : ℕ) → AreLinked hung x y → Chain Finer x y
   hung_back Finer before new = refined (λ x y. parent_of hung x ≡ y) Finer (λ x y is. elim (cases_eq x high) [
-      inl same ↦ let there : low ≡ y = sym (set_same parents high low within) ∙ ap (parent_of hung) (sym same) ∙ is in
+    | inl same ↦ let there : low ≡ y = sym (set_same parents high low within) ∙ ap (parent_of hung) (sym same) ∙ is in
         subst (λ z. Chain Finer z y) (sym same) (subst (Chain Finer high) there new)
     | inr other ↦ before x y (link parents x y (sym (hung_past x other) ∙ is))
   ])
@@ -163,11 +163,11 @@ module _ (parents : List ℕ) (high low : ℕ) (falls : Falls parents) (root : I
   pub hung_joins : (pair : Pair) → Ends pair → (pairs : List Pair) → LinksJoined pairs parents → LinksJoined (pairs ++ pair ∷ []) (set parents high low)
   hung_joins pair ends pairs links = record {
     linked = refined (IsPair (pairs ++ pair ∷ [])) (λ x y. parent_of hung x ≡ y) (λ x y listed. elim (Contains-push_cases pairs pair (record { a = x; b = y }) listed) [
-        inl before ↦ hung_onward x y (links.linked x y (forward x y y before (stay y)))
+      | inl before ↦ hung_onward x y (links.linked x y (forward x y y before (stay y)))
       | inr is ↦ subst (λ (p : Pair). AreLinked hung p.a p.b) is (meet (λ x y. parent_of hung x ≡ y) hung_onward pair ends (link hung high low (set_same parents high low within)))
     ]);
     joined = hung_back (IsPair (pairs ++ pair ∷ [])) before
-      (meet_back (IsPair (pairs ++ pair ∷ [])) before pair ends (forward pair.a pair.b pair.b (Contains-push pairs pair) (stay pair.b)));
+        (meet_back (IsPair (pairs ++ pair ∷ [])) before pair ends (forward pair.a pair.b pair.b (Contains-push pairs pair) (stay pair.b)));
   }
     where
       before : (x y : ℕ) → AreLinked parents x y → AreJoined (pairs ++ pair ∷ []) x y
@@ -185,7 +185,7 @@ moved pairs old new kept links = record {
 pub join_links : (new : List ℕ) (pair : Pair) (first second : ℕ) → Falls new → IsRoot new first → IsRoot new second → AreLinked new pair.a first → AreLinked new pair.b second
     → first < length new → second < length new → (pairs : List Pair) → LinksJoined pairs new → LinksJoined (pairs ++ pair ∷ []) (set new (max first second) (min first second))
 join_links new pair first second falls root root' a b within within' pairs links = elim (cases_lt first second) [
-    inl below ↦
+  | inl below ↦
       let high : max first second ≡ second = omega arith in
       let low : min first second ≡ first = omega arith in
       rw (high, low) (hung_joins new second first falls root' within' (omega arith) pair (inr (a, b)) pairs links)
@@ -205,6 +205,6 @@ roots_links parents root = record {
 -- a number past the end is a root, and so is a parent that is a root inside
 pub flat_all : (parents : List ℕ) → ((x : ℕ) → x < length parents → IsRoot parents (parent_of parents x)) → IsFlat parents
 flat_all parents flat x = elim (cases_lt x (length parents)) [
-    inl within ↦ flat x within
+  | inl within ↦ flat x within
   | inr past ↦ let own = get_or_past parents x x past in rw (own, own) refl
 ]

@@ -14,7 +14,7 @@ no_member x (k, within, is) = omega (arith, within)
 -- a number above all others at the end
 increasing_push : (xs : List ℕ) (y : ℕ) → IsStrictlyIncreasing xs → ((x : ℕ) → Contains xs x → x < y) → IsStrictlyIncreasing (xs ++ y ∷ [])
 increasing_push xs y rising above k within = elim (cases_lt (k + 1) (length xs)) [
-    inl inside ↦
+  | inl inside ↦
       let left = get_or_append_left xs (y ∷ []) 0 k (omega arith) in
       let right = get_or_append_left xs (y ∷ []) 0 (k + 1) inside in
       rw (left, right) (rising k inside)
@@ -43,7 +43,7 @@ not_more parents x root members apart has = record {
   first = has.first;
   several = has.several;
   whole = λ y below is other. elim (cases_eq y x) [
-      inl same ↦ absurd (apart (ap (parent_of parents) (sym same) ∙ is) (λ root. other (same ∙ root)))
+    | inl same ↦ absurd (apart (ap (parent_of parents) (sym same) ∙ is) (λ root. other (same ∙ root)))
     | inr before ↦ has.whole y (omega (arith, below, before)) is other
   ];
 }
@@ -52,33 +52,33 @@ not_more parents x root members apart has = record {
 pub one_more : (parents : List ℕ) (x root : ℕ) (members : List ℕ) → IsFlat parents → parent_of parents x ≡ root → root < x → HasMembers parents x root members → HasMembers parents (x + 1) root (with_member members root x)
 one_more parents x root [] flat is below has = record {
   rising = increasing_push (root ∷ []) x (λ k within. absurd (omega (arith, within))) (λ y member. elim (Contains-push_cases [] root y member) [
-      inl none ↦ absurd (no_member y none)
+    | inl none ↦ absurd (no_member y none)
     | inr same ↦ rw (← same) below
   ]);
   under = λ y member. elim (Contains-push_cases (root ∷ []) x y member) [
-      inl before ↦ elim (Contains-push_cases [] root y before) [
-          inl none ↦ absurd (no_member y none)
-        | inr same ↦ rw (← same) (omega arith, ap (parent_of parents) (sym is) ∙ flat x ∙ is)
-      ]
+    | inl before ↦ elim (Contains-push_cases [] root y before) [
+      | inl none ↦ absurd (no_member y none)
+      | inr same ↦ rw (← same) (omega arith, ap (parent_of parents) (sym is) ∙ flat x ∙ is)
+    ]
     | inr same ↦ rw (← same) (omega arith, is)
   ];
   first = λ some. refl;
   several = λ some. omega arith;
   whole = λ y bounded under other. elim (cases_eq y x) [
-      inl same ↦ rw same (Contains-push (root ∷ []) x)
+    | inl same ↦ rw same (Contains-push (root ∷ []) x)
     | inr before ↦ absurd (no_member y (has.whole y (omega (arith, bounded, before)) under other))
   ];
 }
 one_more parents x root (first ∷ others) flat is below has = record {
   rising = increasing_push (first ∷ others) x has.rising (λ y member. (has.under y member).0);
   under = λ y member. elim (Contains-push_cases (first ∷ others) x y member) [
-      inl before ↦ let old = has.under y before in (omega (arith, old.0), old.1)
+    | inl before ↦ let old = has.under y before in (omega (arith, old.0), old.1)
     | inr same ↦ rw (← same) (omega arith, is)
   ];
   first = λ some. has.first (λ none. cc);
   several = λ some. let before = has.several (λ none. cc) in let size = length_push (first ∷ others) x in omega (arith, before, size);
   whole = λ y bounded under other. elim (cases_eq y x) [
-      inl same ↦ rw same (Contains-push (first ∷ others) x)
+    | inl same ↦ rw same (Contains-push (first ∷ others) x)
     | inr before ↦ Contains-append_left (first ∷ others) (x ∷ []) y (has.whole y (omega (arith, bounded, before)) under other)
   ];
 }
@@ -86,11 +86,11 @@ one_more parents x root (first ∷ others) flat is below has = record {
 -- an empty list at the end changes no list
 unpushed : (lists : List (List ℕ)) (root : ℕ) → get_or (lists ++ [] ∷ []) root [] ≡ get_or lists root []
 unpushed lists root = elim (cases_lt root (length lists)) [
-    inl inside ↦ get_or_append_left lists ([] ∷ []) [] root inside
+  | inl inside ↦ get_or_append_left lists ([] ∷ []) [] root inside
   | inr past ↦ elim (cases_eq root (length lists)) [
-        inl last ↦ get_or_push lists [] [] root (sym last) ∙ sym (get_or_past lists root [] past)
-      | inr beyond ↦ get_or_past (lists ++ [] ∷ []) root [] (let size = length_push lists [] in omega (arith, size, past, beyond)) ∙ sym (get_or_past lists root [] past)
-    ]
+    | inl last ↦ get_or_push lists [] [] root (sym last) ∙ sym (get_or_past lists root [] past)
+    | inr beyond ↦ get_or_past (lists ++ [] ∷ []) root [] (let size = length_push lists [] in omega (arith, size, past, beyond)) ∙ sym (get_or_past lists root [] past)
+  ]
 ]
 
 -- the lists of all roots after a number that is a root
@@ -108,7 +108,7 @@ member_added parents x top lists pushed now old new more read made written flat 
     let within : top < length pushed = rw more (omega (arith, longer, size, below)) in
     let before : old ≡ get_or lists top [] = get_or_read pushed top old within read [] ∙ ap (λ all. get_or all top []) more ∙ unpushed lists top in
     elim (cases_eq root top) [
-        inl same ↦ rw (same, written, get_or-set_same pushed top new [] within, made, before) (one_more parents x top (get_or lists top []) flat is below (has top))
+      | inl same ↦ rw (same, written, get_or-set_same pushed top new [] within, made, before) (one_more parents x top (get_or lists top []) flat is below (has top))
       | inr other ↦ rw (written, get_or-set_other pushed top root new [] other, more, unpushed lists root)
           (not_more parents x root (get_or lists root []) (λ under apart. other (sym under ∙ is)) (has root))
     ]

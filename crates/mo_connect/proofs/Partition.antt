@@ -32,13 +32,12 @@ kept_any P test (x ∷ xs) zero d within passes has = rw passes (zero, x, omega 
 kept_any {X} P test (x ∷ xs) (suc k) d within passes has =
     let rest = kept_any P test xs k d (omega (arith, within)) passes has in
     elim (cases_Bool (test x)) [
-        inl passed ↦ rw passed (suc rest.0, rest.1, (let below = rest.2 in omega (arith, below)), rest.3, rest.4)
+      | inl passed ↦ rw passed (suc rest.0, rest.1, (let below = rest.2 in omega (arith, below)), rest.3, rest.4)
       | inr left ↦ rw left rest
     ]
 
 module _ (count : ℕ) (pairs : List Pair) (parents : List ℕ) (lists : List (List ℕ)) (links : LinksJoined pairs parents) (flat : IsFlat parents)
     (size : length parents ≡ count) (filed : length lists ≡ count) (has : (root : ℕ) → HasMembers parents count root (get_or lists root [])) where
-
   -- a filled list is that of a root
   record IsOf (class : List ℕ) : Type 0 where
     root : ℕ
@@ -64,7 +63,7 @@ module _ (count : ℕ) (pairs : List Pair) (parents : List ℕ) (lists : List (L
   -- a number that is not its own root is in the root's list
   listed : (x : ℕ) → x ≢ parent_of parents x → Contains (get_or lists (parent_of parents x) []) x
   listed x other = elim (cases_lt x count) [
-      inl within ↦ (has (parent_of parents x)).whole x within refl other
+    | inl within ↦ (has (parent_of parents x)).whole x within refl other
     | inr past ↦ absurd (other (sym (get_or_past parents x x (omega (arith, past, size)))))
   ]
 
@@ -80,21 +79,23 @@ module _ (count : ℕ) (pairs : List Pair) (parents : List ℕ) (lists : List (L
   together x y other chain =
       let same : parent_of parents x ≡ parent_of parents y = one_root x y (links.linked x y chain) in
       let both : Contains (get_or lists (parent_of parents x) []) x × Contains (get_or lists (parent_of parents x) []) y = elim (cases_eq x (parent_of parents x)) [
-          inl head ↦
+        | inl head ↦
             let in' : Contains (get_or lists (parent_of parents x) []) y = rw same (listed y (λ own. other (head ∙ same ∙ sym own))) in
             (subst (Contains (get_or lists (parent_of parents x) [])) (sym head) (heads (parent_of parents x) (contains_some (get_or lists (parent_of parents x) []) y in')), in')
         | inr under ↦
-            let in' = listed x under in
-            (in', elim (cases_eq y (parent_of parents y)) [
-                inl head ↦ subst (Contains (get_or lists (parent_of parents x) [])) (same ∙ sym head) (heads (parent_of parents x) (contains_some (get_or lists (parent_of parents x) []) x in'))
-              | inr under' ↦ rw same (listed y under')
-            ])
+            let in' = listed x under in (
+              in',
+              elim (cases_eq y (parent_of parents y)) [
+                | inl head ↦ subst (Contains (get_or lists (parent_of parents x) [])) (same ∙ sym head) (heads (parent_of parents x) (contains_some (get_or lists (parent_of parents x) []) x in'))
+                | inr under' ↦ rw same (listed y under')
+              ],
+            )
       ] in
       let some = contains_some (get_or lists (parent_of parents x) []) x both.0 in
       kept_any (λ class. Contains class x × Contains class y) is_filled lists (parent_of parents x) [] (elim (cases_lt (parent_of parents x) (length lists)) [
-            inl within ↦ within
-          | inr past ↦ absurd (some (get_or_past lists (parent_of parents x) [] past))
-        ]) (some_filled (get_or lists (parent_of parents x) []) some) both
+        | inl within ↦ within
+        | inr past ↦ absurd (some (get_or_past lists (parent_of parents x) [] past))
+      ]) (some_filled (get_or lists (parent_of parents x) []) some) both
 
   -- the lists of two roots
   record AreOfTwo (class later : List ℕ) : Type 0 where
@@ -117,14 +118,14 @@ module _ (count : ℕ) (pairs : List Pair) (parents : List ℕ) (lists : List (L
   are_classes = record {
     below = λ k d within i e inside. ((kept k d within).members.under (get_or (get_or (filter is_filled lists) k d) i e) (Contains-get_or (get_or (filter is_filled lists) k d) i e inside)).0;
     joined = λ k d within x y one other. let class = kept k d within in
-      links.joined x y (under_one x y class.root (class.members.under x one).1 (class.members.under y other).1);
+        links.joined x y (under_one x y class.root (class.members.under x one).1 (class.members.under y other).1);
     together = together;
     apart = λ i j d below within x one other. let two = pairwise i j d below within in
-      let first = (two.members.under x one).1 in let second = (two.others.under x other).1 in let rises = two.rises in omega (arith, first, second, rises);
+        let first = (two.members.under x one).1 in let second = (two.others.under x other).1 in let rises = two.rises in omega (arith, first, second, rises);
     several = λ k d within. let class = kept k d within in class.members.several class.some;
     rising = λ k d within. (kept k d within).members.rising;
     ordered = λ i j d below within. let two = pairwise i j d below within in
-      let first = two.members.first (kept i d (omega (arith, below, within))).some in
-      let second = two.others.first (kept j d within).some in
-      let rises = two.rises in omega (arith, first, second, rises);
+        let first = two.members.first (kept i d (omega (arith, below, within))).some in
+        let second = two.others.first (kept j d within).some in
+        let rises = two.rises in omega (arith, first, second, rises);
   }

@@ -13,4 +13,4 @@ returns c =
     let filed : length c.in_ok-classes.classes.items ≡ c.args.count = search rules in
     let seen : c.deref.result.now ≡ c.flatten.new.parents = c.deref.ensures.value ∙ with_items_is c.in_ok-parents.parents c.flatten.new.parents (search rules) in
     rw (c.from_vec.ensures, c.keep_filled.ensures)
-      (are_classes c.args.count c.args.pairs.now c.flatten.new.parents c.in_ok-classes.classes.items links c.flatten.ensures.flat size filed (rw seen at c.in_ok-classes.ensures.members))
+    (are_classes c.args.count c.args.pairs.now c.flatten.new.parents c.in_ok-classes.classes.items links c.flatten.ensures.flat size filed (rw seen at c.in_ok-classes.ensures.members))

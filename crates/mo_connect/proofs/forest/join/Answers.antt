@@ -8,7 +8,7 @@ returns-clause-links c = λ pairs links.
     let second = c.find_root-second in
     let kept = second.ensures.kept in
     rw (c.max.ensures, c.min.ensures) (join_links second.new.parents c.args.pair first.result second.result kept.falls
-      (kept.roots first.result first.ensures.root) second.ensures.root
-      (kept.onward c.args.pair.a first.result first.ensures.linked) second.ensures.linked
-      (omega arith) (omega arith) pairs
-      (moved pairs c.args.parents.now second.new.parents (kept_twice c.args.parents.now first.new.parents second.new.parents first.ensures.kept kept) links))
+    (kept.roots first.result first.ensures.root) second.ensures.root
+    (kept.onward c.args.pair.a first.result first.ensures.linked) second.ensures.linked
+    (omega arith) (omega arith) pairs
+    (moved pairs c.args.parents.now second.new.parents (kept_twice c.args.parents.now first.new.parents second.new.parents first.ensures.kept kept) links))

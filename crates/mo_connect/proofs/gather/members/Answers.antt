@@ -14,7 +14,7 @@ loop-x-preserved c =
     record {
       size = elim c.if-root-x.branch [ then-root-x+in_ok-add w ↦ search rules | else-root-x w ↦ search rules ];
       members = elim c.if-root-x.branch [
-          then-root-x+in_ok-add w ↦ member_added c.args.parents.now c.loop-x.x (get_or c.args.parents.now c.loop-x.x 0) c.loop-x.lists.items c.push.new.self.items c.if-root-x.lists.items
+        | then-root-x+in_ok-add w ↦ member_added c.args.parents.now c.loop-x.x (get_or c.args.parents.now c.loop-x.x 0) c.loop-x.lists.items c.push.new.self.items c.if-root-x.lists.items
             w.index_mut.result.now w.add.new.list pushed w.index_mut.ensures.value w.in_ok-add.ensures (ap (λ lists. lists.items) w.lists-is)
             c.requires.flat (sym read) w.if-root-x.true size c.loop-x.invariant.members
         | else-root-x w ↦ root_added c.args.parents.now c.loop-x.x c.loop-x.lists.items c.if-root-x.lists.items (ap (λ lists. lists.items) w.lists-is ∙ pushed)
