@@ -2,3 +2,4 @@ pub mod Chains
 pub mod Links
 pub mod Members
 pub mod Partition
+pub mod Unique

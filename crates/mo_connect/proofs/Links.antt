@@ -3,11 +3,10 @@ use Rattle.std.proofs.Common.{◌≡◌, ◌≢◌, ℕ, ◌<◌, ◌≤◌, ◌
 use Rattle.std.proofs.lemmas.Bool.{cases_eq, cases_lt}
 use Rattle.std.proofs.lemmas.List.{get_or-set_same, get_or-set_other, get_or_default, get_or_past}
 use Rattle.std.proofs.lemmas.List.Elements.{Contains-push, Contains-push_cases, Contains-append_left}
-use Rattle.std.specs.List.{Contains}
 use Rattle.mo_connect.specs.declared.Pair.{Pair}
 use Rattle.mo_connect.specs.Chain.{Chain, stay, forward, backward, IsPair, AreJoined}
 use Rattle.mo_connect.specs.Links.{parent_of, IsRoot, Falls, IsFlat, AreLinked, KeepsLinks, LinksJoined}
-use Rattle.mo_connect.proofs.Chains.{follow, reversed, refined, unchanged}
+use Rattle.mo_connect.proofs.Chains.{follow, reversed, refined}
 
 -- a number and its parent
 pub link : (parents : List ℕ) (x y : ℕ) → parent_of parents x ≡ y → AreLinked parents x y

@@ -1,18 +1,16 @@
 -- The lists of members that are filled are the classes.
-use Rattle.std.proofs.Common.{◌≡◌, ◌≢◌, ℕ, zero, suc, ◌<◌, ◌≤◌, ◌+◌, Bool, true, false, cond, List, [], ◌∷◌, ◌⊎◌, inl, inr, length, get_or, refl, sym, ap, subst, ◌∙◌, arith}
+use Rattle.std.proofs.Common.{◌≡◌, ◌≢◌, ℕ, zero, suc, ◌<◌, Bool, true, List, [], ◌∷◌, inl, inr, length, get_or, refl, sym, ap, subst, ◌∙◌, arith}
 use Rattle.std.proofs.lemmas.Bool.{cases_eq, cases_lt, cases_Bool}
 use Rattle.std.proofs.lemmas.List.{get_or_default, get_or_past}
 use Rattle.std.proofs.lemmas.List.Elements.{Contains-get_or, All-filter, filter_passes}
 use Rattle.std.proofs.lemmas.List.Kept.{AllPairs-filter}
 use Rattle.std.specs.List.{All, AllPairs, Any, Contains, filter}
-use Rattle.std.specs.List.Sorted.{IsStrictlyIncreasing}
 use Rattle.mo_connect.specs.declared.Pair.{Pair}
-use Rattle.mo_connect.specs.Chain.{Chain, stay, forward, backward, AreJoined}
+use Rattle.mo_connect.specs.Chain.{stay, forward, backward, AreJoined}
 use Rattle.mo_connect.specs.Classes.{AreClasses}
-use Rattle.mo_connect.specs.Links.{parent_of, IsRoot, Falls, IsFlat, AreLinked, LinksJoined}
+use Rattle.mo_connect.specs.Links.{parent_of, IsFlat, AreLinked, LinksJoined}
 use Rattle.mo_connect.specs.Gathered.{HasMembers, is_filled}
-use Rattle.mo_connect.proofs.Chains.{follow, reversed, unchanged}
-use Rattle.mo_connect.proofs.Links.{link}
+use Rattle.mo_connect.proofs.Chains.{unchanged}
 
 filled_some : (xs : List ℕ) → is_filled xs ≡ true → xs ≢ []
 filled_some [] filled none = cc

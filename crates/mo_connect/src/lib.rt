@@ -1,7 +1,7 @@
 //! The classes into which pairs join numbers, as connects join the members of connectors.
 #![tactic(auto)]
 
-ghost use Rattle.std.specs.Prelude.{IfOk};
+ghost use Rattle.std.specs.Prelude.{◌≡◌, ℕ, List, IfOk};
 ghost use Rattle.mo_connect.specs.Chain.{AreBelow};
 ghost use Rattle.mo_connect.specs.Classes.{AreClasses};
 
@@ -32,7 +32,9 @@ impl From<AllocError> for NoMemory {
 /// pairs. The members of a class rise, and the classes stand in the order of their first members.
 pub fn sets(alloc: Global, count: u32, pairs: &List<Pair>) -> Result<List<List<u32>>, NoMemory>
     requires { AreBelow count pairs.now }
-    ensures { IfOk result (AreClasses count pairs.now) }
+    ensures classes { IfOk result (AreClasses count pairs.now) }
+    // No other list fits.
+    ensures only { IfOk result (λ classes. (others : List (List ℕ)) → AreClasses count pairs.now others → others ≡ classes) }
 {
     let mut parents = forest::joined(alloc, count, pairs.as_slice())?;
     forest::flatten(&mut parents);

@@ -1,4 +1,4 @@
-use Rattle.std.proofs.Common.{◌≡◌, ◌≢◌, ℕ, ◌<◌, ◌≤◌, length, arith, ◌∙◌, sym, get_or}
+use Rattle.std.proofs.Common.{◌≢◌, arith, ◌∙◌, get_or}
 use Rattle.std.proofs.lemmas.List.{length-set}
 use Rattle.mo_connect.specs.Chain.{stay}
 use Rattle.mo_connect.specs.Links.{parent_of}

@@ -1,4 +1,4 @@
-use Rattle.std.proofs.Common.{ℕ, ◌<◌, ◌≤◌, length}
+use Rattle.std.proofs.Common.{◌<◌, ◌≤◌, length}
 use Rattle.mo_connect.specs.Links.{AreLinked, KeepsLinks}
 use Rattle.mo_connect.proofs.forest.find_root.Given as goal
 

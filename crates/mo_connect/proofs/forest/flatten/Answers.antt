@@ -1,6 +1,5 @@
-use Rattle.std.proofs.Common.{◌≡◌, ℕ, ◌<◌, length, arith, subst, sym}
-use Rattle.mo_connect.specs.Links.{parent_of, IsRoot}
-use Rattle.mo_connect.proofs.Links.{kept_all, reads, climb_keeps, flat_more, flat_all}
+use Rattle.std.proofs.Common.{◌<◌, length, arith}
+use Rattle.mo_connect.proofs.Links.{reads, climb_keeps, flat_more}
 use Rattle.mo_connect.proofs.forest.flatten.Goals as goal
 
 pub bounds-parents-parents : goal.bounds-parents-parents

@@ -1,4 +1,4 @@
-use Rattle.std.proofs.Common.{ℕ, ◌<◌, length}
+use Rattle.std.proofs.Common.{ℕ, ◌<◌}
 use Rattle.mo_connect.specs.Links.{parent_of, IsRoot, KeepsLinks}
 use Rattle.mo_connect.proofs.forest.flatten.Given as goal
 

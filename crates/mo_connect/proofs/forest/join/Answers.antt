@@ -1,4 +1,4 @@
-use Rattle.std.proofs.Common.{◌<◌, length, arith}
+use Rattle.std.proofs.Common.{arith}
 use Rattle.mo_connect.proofs.Links.{moved, kept_twice, join_links}
 use Rattle.mo_connect.proofs.forest.join.Goals as goal
 

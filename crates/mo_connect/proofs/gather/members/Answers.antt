@@ -1,4 +1,4 @@
-use Rattle.std.proofs.Common.{rules, ◌≡◌, ℕ, ◌<◌, [], ◌∷◌, ◌++◌, length, get_or, vec_len, ◌+◌, ◌≤◌, arith, ap, sym, ◌∙◌}
+use Rattle.std.proofs.Common.{rules, ◌≡◌, [], ◌∷◌, ◌++◌, length, get_or, arith, ap, sym, ◌∙◌}
 use Rattle.mo_connect.specs.Links.{parent_of}
 use Rattle.mo_connect.proofs.Links.{parent_at}
 use Rattle.mo_connect.proofs.Members.{root_added, member_added}
