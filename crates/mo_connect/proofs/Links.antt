@@ -1,11 +1,11 @@
 -- Parents that change and keep what they link.
-use Rattle.std.proofs.Common.{◌≡◌, ◌≢◌, ℕ, ◌<◌, ◌≤◌, ◌+◌, List, [], ◌∷◌, ◌++◌, ◌⊎◌, inl, inr, length, get_or, set, min, max, refl, sym, ap, subst, ◌∙◌, arith}
+use Rattle.std.proofs.Common.{◌≡◌, ◌≢◌, ℕ, ◌<◌, ◌+◌, List, [], ◌∷◌, ◌++◌, ◌⊎◌, inl, inr, length, get_or, set, min, max, refl, sym, ap, subst, ◌∙◌, arith}
 use Rattle.std.proofs.lemmas.Bool.{cases_eq, cases_lt}
-use Rattle.std.proofs.lemmas.List.{get_or-set_same, get_or-set_other, get_or_default, get_or_past}
+use Rattle.std.proofs.lemmas.List.{get_or-set_same, get_or-set_other, get_or_default}
 use Rattle.std.proofs.lemmas.List.Elements.{Contains-push, Contains-push_cases, Contains-append_left}
 use Rattle.mo_connect.specs.declared.Pair.{Pair}
 use Rattle.mo_connect.specs.Chain.{Chain, stay, forward, backward, IsPair, AreJoined}
-use Rattle.mo_connect.specs.Links.{parent_of, IsRoot, Falls, IsFlat, AreLinked, KeepsLinks, LinksJoined}
+use Rattle.mo_connect.specs.Links.{parent_of, IsRoot, Falls, AreLinked, KeepsLinks, LinksJoined}
 use Rattle.mo_connect.proofs.Chains.{follow, reversed, refined}
 
 -- a number and its parent
@@ -117,19 +117,13 @@ climb_links now start at above falls within is linked =
     rw is (follow (λ x y. parent_of new x ≡ y) start at (parent_of now (parent_of now at)) ((halved_keeps now at falls within).onward start at linked)
     (link new at (parent_of now (parent_of now at)) (set_same now at (parent_of now (parent_of now at)) within)))
 
--- a root that is hung under another number below it
-module _ (parents : List ℕ) (high low : ℕ) (falls : Falls parents) (root : IsRoot parents high) (within : high < length parents) (under : low ≤ high) where
+-- a root that is hung under another number
+module _ (parents : List ℕ) (high low : ℕ) (root : IsRoot parents high) (within : high < length parents) where
   abbrev hung : List ℕ
   hung = set parents high low
 
   hung_past : (x : ℕ) → x ≢ high → parent_of hung x ≡ parent_of parents x
   hung_past x other = set_other parents high low x other
-
-  pub hung_falls : Falls (set parents high low)
-  hung_falls x = elim (cases_eq x high) [
-    | inl same ↦ rw (same, set_same parents high low within) under
-    | inr other ↦ rw (hung_past x other) (falls x)
-  ]
 
   hung_onward : (x y : ℕ) → AreLinked parents x y → AreLinked hung x y
   hung_onward = refined (λ x y. parent_of parents x ≡ y) (λ x y. parent_of hung x ≡ y) (λ x y is. elim (cases_eq x high) [
@@ -181,17 +175,17 @@ moved pairs old new kept links = record {
 }
 
 -- the roots over the numbers of a pair, of which the higher one is hung under the other
-pub join_links : (new : List ℕ) (pair : Pair) (first second : ℕ) → Falls new → IsRoot new first → IsRoot new second → AreLinked new pair.a first → AreLinked new pair.b second
+pub join_links : (new : List ℕ) (pair : Pair) (first second : ℕ) → IsRoot new first → IsRoot new second → AreLinked new pair.a first → AreLinked new pair.b second
     → first < length new → second < length new → (pairs : List Pair) → LinksJoined pairs new → LinksJoined (pairs ++ pair ∷ []) (set new (max first second) (min first second))
-join_links new pair first second falls root root' a b within within' pairs links = elim (cases_lt first second) [
+join_links new pair first second root root' a b within within' pairs links = elim (cases_lt first second) [
   | inl below ↦
       let high : max first second ≡ second = omega arith in
       let low : min first second ≡ first = omega arith in
-      rw (high, low) (hung_joins new second first falls root' within' (omega arith) pair (inr (a, b)) pairs links)
+      rw (high, low) (hung_joins new second first root' within' pair (inr (a, b)) pairs links)
   | inr above ↦
       let high : max first second ≡ first = omega arith in
       let low : min first second ≡ second = omega arith in
-      rw (high, low) (hung_joins new first second falls root within above pair (inl (a, b)) pairs links)
+      rw (high, low) (hung_joins new first second root within pair (inl (a, b)) pairs links)
 ]
 
 -- where each number is its own parent, only equal numbers are linked
@@ -200,10 +194,3 @@ roots_links parents root = record {
   linked = refined (IsPair []) (λ x y. parent_of parents x ≡ y) (λ x y listed. absurd (omega (arith, listed.1)));
   joined = refined (λ x y. parent_of parents x ≡ y) (IsPair []) (λ x y is. subst (Chain (IsPair []) x) (sym (root x) ∙ is) (stay x));
 }
-
--- a number past the end is a root, and so is a parent that is a root inside
-pub flat_all : (parents : List ℕ) → ((x : ℕ) → x < length parents → IsRoot parents (parent_of parents x)) → IsFlat parents
-flat_all parents flat x = elim (cases_lt x (length parents)) [
-  | inl within ↦ flat x within
-  | inr past ↦ let own = get_or_past parents x x past in rw (own, own) refl
-]

@@ -1,11 +1,11 @@
 -- Lists of members that grow by one number.
-use Rattle.std.proofs.Common.{◌≡◌, ◌≢◌, ℕ, ◌<◌, ◌≤◌, ◌+◌, List, [], ◌∷◌, ◌++◌, inl, inr, length, get_or, set, refl, sym, ap, ◌∙◌, arith}
+use Rattle.std.proofs.Common.{◌≡◌, ◌≢◌, ℕ, ◌<◌, ◌+◌, List, [], ◌∷◌, ◌++◌, inl, inr, length, get_or, set, refl, sym, ap, ◌∙◌, arith}
 use Rattle.std.proofs.lemmas.Bool.{cases_eq, cases_lt}
 use Rattle.std.proofs.lemmas.List.{get_or-set_same, get_or-set_other, get_or_append_left, get_or_push, get_or_past, length_push, get_or_read}
 use Rattle.std.proofs.lemmas.List.Elements.{Contains-push, Contains-push_cases, Contains-append_left, Contains-get_or}
 use Rattle.std.specs.List.{Contains}
 use Rattle.std.specs.List.Sorted.{IsStrictlyIncreasing}
-use Rattle.mo_connect.specs.Links.{parent_of, IsRoot, Falls, IsFlat}
+use Rattle.mo_connect.specs.Links.{parent_of, IsRoot, IsFlat}
 use Rattle.mo_connect.specs.Gathered.{HasMembers, with_member}
 
 no_member : (x : ℕ) → Contains [] x → ⊥
@@ -24,16 +24,6 @@ increasing_push xs y rising above k within = elim (cases_lt (k + 1) (length xs))
       let right : get_or (xs ++ y ∷ []) (k + 1) 0 ≡ y = get_or_push xs y 0 (k + 1) (omega (arith, size)) in
       rw (left, right) (above (get_or xs k 0) (Contains-get_or xs k 0 (omega (arith, size))))
 ]
-
--- a root that has no other number below the bound
-pub none_yet : (parents : List ℕ) (bound root : ℕ) → Falls parents → bound ≤ root → HasMembers parents bound root []
-none_yet parents bound root falls past = record {
-  rising = λ k within. absurd (omega (arith, within));
-  under = λ x member. absurd (no_member x member);
-  first = λ some. absurd (some refl);
-  several = λ some. absurd (some refl);
-  whole = λ x below is other. absurd (let low = falls x in omega (arith, is, low));
-}
 
 -- a number that is not under the root, or is the root itself
 pub not_more : (parents : List ℕ) (x root : ℕ) (members : List ℕ) → (parent_of parents x ≡ root → x ≢ root → ⊥) → HasMembers parents x root members → HasMembers parents (x + 1) root members

@@ -68,7 +68,6 @@ module _ (count : ℕ) (pairs : List Pair) (parents : List ℕ) (lists : List (L
   -- a root is in its own list, if that is filled
   heads : (root : ℕ) → get_or lists root [] ≢ [] → Contains (get_or lists root []) root
   heads root some =
-      let class : List ℕ = get_or lists root [] in
       let first = (has root).first some in
       let several = (has root).several some in
       subst (Contains (get_or lists root [])) first (Contains-get_or (get_or lists root []) 0 0 (omega (arith, several)))

@@ -7,7 +7,7 @@ returns-clause-links c = λ pairs links.
     let first = c.find_root-first in
     let second = c.find_root-second in
     let kept = second.ensures.kept in
-    rw (c.max.ensures, c.min.ensures) (join_links second.new.parents c.args.pair first.result second.result kept.falls
+    rw (c.max.ensures, c.min.ensures) (join_links second.new.parents c.args.pair first.result second.result
     (kept.roots first.result first.ensures.root) second.ensures.root
     (kept.onward c.args.pair.a first.result first.ensures.linked) second.ensures.linked
     (omega arith) (omega arith) pairs
