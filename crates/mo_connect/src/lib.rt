@@ -1,4 +1,5 @@
-//! The classes into which pairs join numbers, as connects join the members of connectors.
+//! The classes into which pairs join numbers, as connects join members of connectors into connection sets
+//! (MLS 3.6, chapter 9, "Generation of Connection Equations").
 #![tactic(auto)]
 
 ghost use Rattle.std.specs.Prelude.{◌≡◌, ℕ, List, IfOk};
