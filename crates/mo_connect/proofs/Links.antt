@@ -85,7 +85,8 @@ module _ (parents : List ℕ) (at : ℕ) (falls : Falls parents) (within : at < 
   }
 
   -- the numbers right under a root are one more
-  pub flat_more : ((x : ℕ) → x < at → IsRoot parents (parent_of parents x)) → (x : ℕ) → x < at + 1 → IsRoot halved (parent_of halved x)
+  pub flat_more : ((x : ℕ) → x < at → IsRoot parents (parent_of parents x)) → (x : ℕ) → x < at + 1
+      → IsRoot halved (parent_of halved x)
   flat_more flat x below = elim (cases_eq x at) [
     | inl same ↦ subst (λ z. IsRoot halved (parent_of halved z)) (sym same) (rw halved_at (halved_roots (parent_of parents (parent_of parents at)) top))
     | inr other ↦ rw (halved_past x other) (halved_roots (parent_of parents x) (flat x (omega arith)))
@@ -107,11 +108,13 @@ reads parents at falls within =
     (once, ap (λ x. get_or parents x 0) once ∙ parent_at parents (parent_of parents at) inside)
 
 -- one turn of a climb to the root
-pub climb_keeps : (old now : List ℕ) (at above : ℕ) → at < length now → above ≡ parent_of now (parent_of now at) → KeepsLinks old now → KeepsLinks old (set now at above)
+pub climb_keeps : (old now : List ℕ) (at above : ℕ) → at < length now → above ≡ parent_of now (parent_of now at)
+    → KeepsLinks old now → KeepsLinks old (set now at above)
 climb_keeps old now at above within is kept =
     rw is (kept_twice old now (set now at (parent_of now (parent_of now at))) kept (halved_keeps now at kept.falls within))
 
-pub climb_links : (now : List ℕ) (start at above : ℕ) → Falls now → at < length now → above ≡ parent_of now (parent_of now at) → AreLinked now start at → AreLinked (set now at above) start above
+pub climb_links : (now : List ℕ) (start at above : ℕ) → Falls now → at < length now → above ≡ parent_of now (parent_of now at)
+    → AreLinked now start at → AreLinked (set now at above) start above
 climb_links now start at above falls within is linked =
     let new : List ℕ = set now at (parent_of now (parent_of now at)) in
     rw is (follow (λ x y. parent_of new x ≡ y) start at (parent_of now (parent_of now at)) ((halved_keeps now at falls within).onward start at linked)
@@ -131,7 +134,8 @@ module _ (parents : List ℕ) (high low : ℕ) (root : IsRoot parents high) (wit
     | inr other ↦ link hung x y (hung_past x other ∙ is)
   ])
 
-  hung_back : (Finer : ℕ → ℕ → Type 0) → ((x y : ℕ) → AreLinked parents x y → Chain Finer x y) → Chain Finer high low → (x y : ℕ) → AreLinked hung x y → Chain Finer x y
+  hung_back : (Finer : ℕ → ℕ → Type 0) → ((x y : ℕ) → AreLinked parents x y → Chain Finer x y) → Chain Finer high low → (x y : ℕ)
+      → AreLinked hung x y → Chain Finer x y
   hung_back Finer before new = refined (λ x y. parent_of hung x ≡ y) Finer (λ x y is. elim (cases_eq x high) [
     | inl same ↦ let there : low ≡ y = sym (set_same parents high low within) ∙ ap (parent_of hung) (sym same) ∙ is in
         subst (λ z. Chain Finer z y) (sym same) (subst (Chain Finer high) there new)
@@ -142,27 +146,39 @@ module _ (parents : List ℕ) (high low : ℕ) (root : IsRoot parents high) (wit
   abbrev Ends : Pair → Type 0
   Ends pair = (AreLinked parents pair.a high × AreLinked parents pair.b low) ⊎ (AreLinked parents pair.a low × AreLinked parents pair.b high)
 
-  meet : (Finer : ℕ → ℕ → Type 0) → ((x y : ℕ) → AreLinked parents x y → Chain Finer x y) → (pair : Pair) → Ends pair → Chain Finer high low → Chain Finer pair.a pair.b
-  meet Finer before pair (inl (a, b)) between = follow Finer pair.a high pair.b (before pair.a high a) (follow Finer high low pair.b between (reversed Finer pair.b low (before pair.b low b)))
+  meet : (Finer : ℕ → ℕ → Type 0) → ((x y : ℕ) → AreLinked parents x y → Chain Finer x y) → (pair : Pair) → Ends pair
+      → Chain Finer high low → Chain Finer pair.a pair.b
+  meet Finer before pair (inl (a, b)) between =
+      follow Finer pair.a high pair.b (before pair.a high a) (follow Finer high low pair.b between (reversed Finer pair.b low (before pair.b low b)))
   meet Finer before pair (inr (a, b)) between = follow Finer pair.a low pair.b (before pair.a low a)
       (follow Finer low high pair.b (reversed Finer high low between) (reversed Finer pair.b high (before pair.b high b)))
 
-  meet_back : (Finer : ℕ → ℕ → Type 0) → ((x y : ℕ) → AreLinked parents x y → Chain Finer x y) → (pair : Pair) → Ends pair → Chain Finer pair.a pair.b → Chain Finer high low
-  meet_back Finer before pair (inl (a, b)) between = follow Finer high pair.a low (reversed Finer pair.a high (before pair.a high a)) (follow Finer pair.a pair.b low between (before pair.b low b))
-  meet_back Finer before pair (inr (a, b)) between = follow Finer high pair.b low (reversed Finer pair.b high (before pair.b high b))
+  meet_back : (Finer : ℕ → ℕ → Type 0) → ((x y : ℕ) → AreLinked parents x y → Chain Finer x y) → (pair : Pair) → Ends pair
+      → Chain Finer pair.a pair.b → Chain Finer high low
+  meet_back Finer before pair (inl (a, b)) between =
+      follow Finer high pair.a low (reversed Finer pair.a high (before pair.a high a)) (follow Finer pair.a pair.b low between (before pair.b low b))
+  meet_back Finer before pair (inr (a, b)) between =
+      follow Finer high pair.b low (reversed Finer pair.b high (before pair.b high b))
       (follow Finer pair.b pair.a low (reversed Finer pair.a pair.b between) (before pair.a low a))
 
   -- the parents now link what the pairs and one pair more join
-  pub hung_joins : (pair : Pair) → Ends pair → (pairs : List Pair) → LinksJoined pairs parents → LinksJoined (pairs ++ pair ∷ []) (set parents high low)
+  pub hung_joins : (pair : Pair) → Ends pair → (pairs : List Pair) → LinksJoined pairs parents
+      → LinksJoined (pairs ++ pair ∷ []) (set parents high low)
   hung_joins pair ends pairs links = record {
-    linked = refined (IsPair (pairs ++ pair ∷ [])) (λ x y. parent_of hung x ≡ y) (λ x y listed. elim (Contains-push_cases pairs pair (record { a = x; b = y }) listed) [
-      | inl before ↦ hung_onward x y (links.linked x y (forward x y y before (stay y)))
-      | inr is ↦ subst (λ (p : Pair). AreLinked hung p.a p.b) is (meet (λ x y. parent_of hung x ≡ y) hung_onward pair ends (link hung high low (set_same parents high low within)))
-    ]);
+    linked = refined (IsPair (pairs ++ pair ∷ [])) (λ x y. parent_of hung x ≡ y) after;
     joined = hung_back (IsPair (pairs ++ pair ∷ [])) before
         (meet_back (IsPair (pairs ++ pair ∷ [])) before pair ends (forward pair.a pair.b pair.b (Contains-push pairs pair) (stay pair.b)));
   }
     where
+      met : AreLinked hung pair.a pair.b
+      met = meet (λ x y. parent_of hung x ≡ y) hung_onward pair ends (link hung high low (set_same parents high low within))
+
+      after : (x y : ℕ) → IsPair (pairs ++ pair ∷ []) x y → AreLinked hung x y
+      after x y listed = elim (Contains-push_cases pairs pair (record { a = x; b = y }) listed) [
+        | inl old ↦ hung_onward x y (links.linked x y (forward x y y old (stay y)))
+        | inr is ↦ subst (λ (p : Pair). AreLinked hung p.a p.b) is met
+      ]
+
       before : (x y : ℕ) → AreLinked parents x y → AreJoined (pairs ++ pair ∷ []) x y
       before x y chain = refined (IsPair pairs) (IsPair (pairs ++ pair ∷ []))
           (λ u v listed. forward u v v (Contains-append_left pairs (pair ∷ []) (record { a = u; b = v }) listed) (stay v)) x y (links.joined x y chain)
@@ -175,8 +191,10 @@ moved pairs old new kept links = record {
 }
 
 -- the roots over the numbers of a pair, of which the higher one is hung under the other
-pub join_links : (new : List ℕ) (pair : Pair) (first second : ℕ) → IsRoot new first → IsRoot new second → AreLinked new pair.a first → AreLinked new pair.b second
-    → first < length new → second < length new → (pairs : List Pair) → LinksJoined pairs new → LinksJoined (pairs ++ pair ∷ []) (set new (max first second) (min first second))
+pub join_links : (new : List ℕ) (pair : Pair) (first second : ℕ) → IsRoot new first → IsRoot new second
+    → AreLinked new pair.a first → AreLinked new pair.b second
+    → first < length new → second < length new → (pairs : List Pair)
+    → LinksJoined pairs new → LinksJoined (pairs ++ pair ∷ []) (set new (max first second) (min first second))
 join_links new pair first second root root' a b within within' pairs links = elim (cases_lt first second) [
   | inl below ↦
       let high : max first second ≡ second = omega arith in
@@ -192,5 +210,6 @@ join_links new pair first second root root' a b within within' pairs links = eli
 pub roots_links : (parents : List ℕ) → ((x : ℕ) → IsRoot parents x) → LinksJoined [] parents
 roots_links parents root = record {
   linked = refined (IsPair []) (λ x y. parent_of parents x ≡ y) (λ x y listed. absurd (omega (arith, listed.1)));
-  joined = refined (λ x y. parent_of parents x ≡ y) (IsPair []) (λ x y is. subst (Chain (IsPair []) x) (sym (root x) ∙ is) (stay x));
+  joined =
+      refined (λ x y. parent_of parents x ≡ y) (IsPair []) (λ x y is. subst (Chain (IsPair []) x) (sym (root x) ∙ is) (stay x));
 }

@@ -12,7 +12,8 @@ no_member : (x : ℕ) → Contains [] x → ⊥
 no_member x (k, within, is) = omega (arith, within)
 
 -- a number above all others at the end
-increasing_push : (xs : List ℕ) (y : ℕ) → IsStrictlyIncreasing xs → ((x : ℕ) → Contains xs x → x < y) → IsStrictlyIncreasing (xs ++ y ∷ [])
+increasing_push : (xs : List ℕ) (y : ℕ) → IsStrictlyIncreasing xs → ((x : ℕ) → Contains xs x → x < y)
+    → IsStrictlyIncreasing (xs ++ y ∷ [])
 increasing_push xs y rising above k within = elim (cases_lt (k + 1) (length xs)) [
   | inl inside ↦
       let left = get_or_append_left xs (y ∷ []) 0 k (omega arith) in
@@ -26,7 +27,8 @@ increasing_push xs y rising above k within = elim (cases_lt (k + 1) (length xs))
 ]
 
 -- a number that is not under the root, or is the root itself
-pub not_more : (parents : List ℕ) (x root : ℕ) (members : List ℕ) → (parent_of parents x ≡ root → x ≢ root → ⊥) → HasMembers parents x root members → HasMembers parents (x + 1) root members
+pub not_more : (parents : List ℕ) (x root : ℕ) (members : List ℕ) → (parent_of parents x ≡ root → x ≢ root → ⊥)
+    → HasMembers parents x root members → HasMembers parents (x + 1) root members
 not_more parents x root members apart has = record {
   rising = has.rising;
   under = λ y member. let old = has.under y member in (omega (arith, old.0), old.1);
@@ -39,12 +41,14 @@ not_more parents x root members apart has = record {
 }
 
 -- a number that is under the root
-pub one_more : (parents : List ℕ) (x root : ℕ) (members : List ℕ) → IsFlat parents → parent_of parents x ≡ root → root < x → HasMembers parents x root members → HasMembers parents (x + 1) root (with_member members root x)
+pub one_more : (parents : List ℕ) (x root : ℕ) (members : List ℕ) → IsFlat parents → parent_of parents x ≡ root → root < x
+    → HasMembers parents x root members → HasMembers parents (x + 1) root (with_member members root x)
 one_more parents x root [] flat is below has = record {
-  rising = increasing_push (root ∷ []) x (λ k within. absurd (omega (arith, within))) (λ y member. elim (Contains-push_cases [] root y member) [
-    | inl none ↦ absurd (no_member y none)
-    | inr same ↦ rw (← same) below
-  ]);
+  rising =
+      increasing_push (root ∷ []) x (λ k within. absurd (omega (arith, within))) (λ y member. elim (Contains-push_cases [] root y member) [
+        | inl none ↦ absurd (no_member y none)
+        | inr same ↦ rw (← same) below
+      ]);
   under = λ y member. elim (Contains-push_cases (root ∷ []) x y member) [
     | inl before ↦ elim (Contains-push_cases [] root y before) [
       | inl none ↦ absurd (no_member y none)
@@ -66,7 +70,8 @@ one_more parents x root (first ∷ others) flat is below has = record {
     | inr same ↦ rw (← same) (omega arith, is)
   ];
   first = λ some. has.first (λ none. cc);
-  several = λ some. let before = has.several (λ none. cc) in let size = length_push (first ∷ others) x in omega (arith, before, size);
+  several =
+      λ some. let before = has.several (λ none. cc) in let size = length_push (first ∷ others) x in omega (arith, before, size);
   whole = λ y bounded under other. elim (cases_eq y x) [
     | inl same ↦ rw same (Contains-push (first ∷ others) x)
     | inr before ↦ Contains-append_left (first ∷ others) (x ∷ []) y (has.whole y (omega (arith, bounded, before)) under other)
@@ -79,26 +84,32 @@ unpushed lists root = elim (cases_lt root (length lists)) [
   | inl inside ↦ get_or_append_left lists ([] ∷ []) [] root inside
   | inr past ↦ elim (cases_eq root (length lists)) [
     | inl last ↦ get_or_push lists [] [] root (sym last) ∙ sym (get_or_past lists root [] past)
-    | inr beyond ↦ get_or_past (lists ++ [] ∷ []) root [] (let size = length_push lists [] in omega (arith, size, past, beyond)) ∙ sym (get_or_past lists root [] past)
+    | inr beyond ↦
+        let size = length_push lists [] in
+        get_or_past (lists ++ [] ∷ []) root [] (omega (arith, size, past, beyond)) ∙ sym (get_or_past lists root [] past)
   ]
 ]
 
 -- the lists of all roots after a number that is a root
-pub root_added : (parents : List ℕ) (x : ℕ) (lists now : List (List ℕ)) → now ≡ lists ++ [] ∷ [] → IsRoot parents x → ((root : ℕ) → HasMembers parents x root (get_or lists root []))
+pub root_added : (parents : List ℕ) (x : ℕ) (lists now : List (List ℕ)) → now ≡ lists ++ [] ∷ [] → IsRoot parents x
+    → ((root : ℕ) → HasMembers parents x root (get_or lists root []))
     → (root : ℕ) → HasMembers parents (x + 1) root (get_or now root [])
 root_added parents x lists now pushed own has root =
     rw (pushed, unpushed lists root) (not_more parents x root (get_or lists root []) (λ is other. other (sym own ∙ is)) (has root))
 
 -- the lists of all roots after a number that is under a root
-pub member_added : (parents : List ℕ) (x top : ℕ) (lists pushed now : List (List ℕ)) (old new : List ℕ) → pushed ≡ lists ++ [] ∷ [] → old ≡ get_or pushed top old → new ≡ with_member old top x → now ≡ set pushed top new
-    → IsFlat parents → parent_of parents x ≡ top → top < x → length lists ≡ x → ((root : ℕ) → HasMembers parents x root (get_or lists root []))
+pub member_added : (parents : List ℕ) (x top : ℕ) (lists pushed now : List (List ℕ)) (old new : List ℕ)
+    → pushed ≡ lists ++ [] ∷ [] → old ≡ get_or pushed top old → new ≡ with_member old top x → now ≡ set pushed top new
+    → IsFlat parents → parent_of parents x ≡ top → top < x → length lists ≡ x
+    → ((root : ℕ) → HasMembers parents x root (get_or lists root []))
     → (root : ℕ) → HasMembers parents (x + 1) root (get_or now root [])
 member_added parents x top lists pushed now old new more read made written flat is below size has root =
     let longer = length_push lists [] in
     let within : top < length pushed = rw more (omega (arith, longer, size, below)) in
     let before : old ≡ get_or lists top [] = get_or_read pushed top old within read [] ∙ ap (λ all. get_or all top []) more ∙ unpushed lists top in
     elim (cases_eq root top) [
-      | inl same ↦ rw (same, written, get_or-set_same pushed top new [] within, made, before) (one_more parents x top (get_or lists top []) flat is below (has top))
+      | inl same ↦ rw (same, written, get_or-set_same pushed top new [] within, made, before)
+          (one_more parents x top (get_or lists top []) flat is below (has top))
       | inr other ↦ rw (written, get_or-set_other pushed top root new [] other, more, unpushed lists root)
           (not_more parents x root (get_or lists root []) (λ under apart. other (sym under ∙ is)) (has root))
     ]

@@ -24,7 +24,8 @@ contains_some : (xs : List ℕ) (x : ℕ) → Contains xs x → xs ≢ []
 contains_some xs x (k, within, is) none = let empty : length xs ≡ 0 = ap length none in omega (arith, within, empty)
 
 -- what an element that passes has, one of those kept has
-kept_any : {X : Type 0} (P : X → Type 0) (test : X → Bool) (xs : List X) (k : ℕ) (d : X) → k < length xs → test (get_or xs k d) ≡ true → P (get_or xs k d) → Any P (filter test xs)
+kept_any : {X : Type 0} (P : X → Type 0) (test : X → Bool) (xs : List X) (k : ℕ) (d : X) → k < length xs
+    → test (get_or xs k d) ≡ true → P (get_or xs k d) → Any P (filter test xs)
 kept_any P test [] k d within passes has = absurd (omega (arith, within))
 kept_any P test (x ∷ xs) zero d within passes has = rw passes (zero, x, omega arith, refl, has)
 kept_any {X} P test (x ∷ xs) (suc k) d within passes has =
@@ -52,47 +53,60 @@ module _ (count : ℕ) (pairs : List Pair) (parents : List ℕ) (lists : List (L
 
   -- linked numbers are under one root
   one_root : (x y : ℕ) → AreLinked parents x y → parent_of parents x ≡ parent_of parents y
-  one_root = unchanged (λ x y. parent_of parents x ≡ y) (parent_of parents) (λ x y is. is ∙ sym (ap (parent_of parents) (sym is) ∙ flat x ∙ is))
+  one_root =
+      unchanged (λ x y. parent_of parents x ≡ y) (parent_of parents) (λ x y is. is ∙ sym (ap (parent_of parents) (sym is) ∙ flat x ∙ is))
 
   -- numbers under one root are linked
   under_one : (x y root : ℕ) → parent_of parents x ≡ root → parent_of parents y ≡ root → AreLinked parents x y
   under_one x y root is is' = forward x root y is (backward root y y is' (stay y))
 
+  -- the list of a number's root
+  abbrev list_of : ℕ → List ℕ
+  list_of x = get_or lists (parent_of parents x) []
+
   -- a number that is not its own root is in the root's list
-  listed : (x : ℕ) → x ≢ parent_of parents x → Contains (get_or lists (parent_of parents x) []) x
+  listed : (x : ℕ) → x ≢ parent_of parents x → Contains (list_of x) x
   listed x other = elim (cases_lt x count) [
     | inl within ↦ (has (parent_of parents x)).whole x within refl other
     | inr past ↦ absurd (other (sym (get_or_past parents x x (omega (arith, past, size)))))
   ]
 
-  -- a root is in its own list, if that is filled
-  heads : (root : ℕ) → get_or lists root [] ≢ [] → Contains (get_or lists root []) root
-  heads root some =
-      let first = (has root).first some in
-      let several = (has root).several some in
-      subst (Contains (get_or lists root [])) first (Contains-get_or (get_or lists root []) 0 0 (omega (arith, several)))
+  -- a root is in its list, if that has a member
+  root_listed : (x y : ℕ) → Contains (list_of x) y → Contains (list_of x) (parent_of parents x)
+  root_listed x y member =
+      let some = contains_some (list_of x) y member in
+      let first = (has (parent_of parents x)).first some in
+      let several = (has (parent_of parents x)).several some in
+      subst (Contains (list_of x)) first (Contains-get_or (list_of x) 0 0 (omega (arith, several)))
+
+  -- different numbers under one root are both in its list
+  both_listed : (x y : ℕ) → x ≢ y → parent_of parents x ≡ parent_of parents y → Contains (list_of x) x × Contains (list_of x) y
+  both_listed x y other same = elim (cases_eq x (parent_of parents x)) [
+    | inl own ↦
+        let member : Contains (list_of x) y = rw same (listed y (λ also. other (own ∙ same ∙ sym also))) in
+        (subst (Contains (list_of x)) (sym own) (root_listed x y member), member)
+    | inr under ↦
+        let member = listed x under in (
+          member,
+          elim (cases_eq y (parent_of parents y)) [
+            | inl own ↦ subst (Contains (list_of x)) (same ∙ sym own) (root_listed x x member)
+            | inr also ↦ rw same (listed y also)
+          ],
+        )
+  ]
 
   together : (x y : ℕ) → x ≢ y → AreJoined pairs x y → Any (λ class. Contains class x × Contains class y) (filter is_filled lists)
   together x y other chain =
-      let same : parent_of parents x ≡ parent_of parents y = one_root x y (links.linked x y chain) in
-      let both : Contains (get_or lists (parent_of parents x) []) x × Contains (get_or lists (parent_of parents x) []) y = elim (cases_eq x (parent_of parents x)) [
-        | inl head ↦
-            let in' : Contains (get_or lists (parent_of parents x) []) y = rw same (listed y (λ own. other (head ∙ same ∙ sym own))) in
-            (subst (Contains (get_or lists (parent_of parents x) [])) (sym head) (heads (parent_of parents x) (contains_some (get_or lists (parent_of parents x) []) y in')), in')
-        | inr under ↦
-            let in' = listed x under in (
-              in',
-              elim (cases_eq y (parent_of parents y)) [
-                | inl head ↦ subst (Contains (get_or lists (parent_of parents x) [])) (same ∙ sym head) (heads (parent_of parents x) (contains_some (get_or lists (parent_of parents x) []) x in'))
-                | inr under' ↦ rw same (listed y under')
-              ],
-            )
-      ] in
-      let some = contains_some (get_or lists (parent_of parents x) []) x both.0 in
-      kept_any (λ class. Contains class x × Contains class y) is_filled lists (parent_of parents x) [] (elim (cases_lt (parent_of parents x) (length lists)) [
-        | inl within ↦ within
+      let both = both_listed x y other (one_root x y (links.linked x y chain)) in
+      let some = contains_some (list_of x) x both.0 in
+      let within : parent_of parents x < length lists = elim (cases_lt (parent_of parents x) (length lists)) [
+        | inl inside ↦ inside
         | inr past ↦ absurd (some (get_or_past lists (parent_of parents x) [] past))
-      ]) (some_filled (get_or lists (parent_of parents x) []) some) both
+      ] in
+      kept_any (λ class. Contains class x × Contains class y) is_filled lists (parent_of parents x) [] within (some_filled (list_of x) some) both
+
+  below : (class : List ℕ) → IsOf class → All (λ x. x < count) class
+  below class of k d within = (of.members.under (get_or class k d) (Contains-get_or class k d within)).0
 
   -- the lists of two roots
   record AreOfTwo (class later : List ℕ) : Type 0 where
@@ -113,7 +127,7 @@ module _ (count : ℕ) (pairs : List Pair) (parents : List ℕ) (lists : List (L
 
   pub are_classes : AreClasses count pairs (filter is_filled lists)
   are_classes = record {
-    below = λ k d within i e inside. ((kept k d within).members.under (get_or (get_or (filter is_filled lists) k d) i e) (Contains-get_or (get_or (filter is_filled lists) k d) i e inside)).0;
+    below = λ k d within. below (get_or (filter is_filled lists) k d) (kept k d within);
     joined = λ k d within x y one other. let class = kept k d within in
         links.joined x y (under_one x y class.root (class.members.under x one).1 (class.members.under y other).1);
     together = together;

@@ -25,12 +25,14 @@ contains_cases x xs y (suc k, within, is) = inr (k, omega (arith, within), is)
 
 module _ {X : Type 0} (key : X → ℕ) where
   rises_head : (x : X) (xs : List X) → AllPairs (λ x y. key x < key y) (x ∷ xs) → (y : X) → Contains xs y → key x < key y
-  rises_head x xs rises y (k, within, is) = subst (λ z. key x < key z) is (rises 0 (suc k) y (omega arith) (omega (arith, within)))
+  rises_head x xs rises y (k, within, is) =
+      subst (λ z. key x < key z) is (rises 0 (suc k) y (omega arith) (omega (arith, within)))
 
   rises_tail : (x : X) (xs : List X) → AllPairs (λ x y. key x < key y) (x ∷ xs) → AllPairs (λ x y. key x < key y) xs
   rises_tail x xs rises i j d below within = rises (suc i) (suc j) d (omega (arith, below)) (omega (arith, within))
 
-  heads_same : (x : X) (xs : List X) (y : X) (ys : List X) → AllPairs (λ x y. key x < key y) (x ∷ xs) → AllPairs (λ x y. key x < key y) (y ∷ ys) → Contains (y ∷ ys) x → Contains (x ∷ xs) y → x ≡ y
+  heads_same : (x : X) (xs : List X) (y : X) (ys : List X) → AllPairs (λ x y. key x < key y) (x ∷ xs)
+      → AllPairs (λ x y. key x < key y) (y ∷ ys) → Contains (y ∷ ys) x → Contains (x ∷ xs) y → x ≡ y
   heads_same x xs y ys rises rises' there back = elim (contains_cases y ys x there) [
     | inl same ↦ sym same
     | inr later ↦ elim (contains_cases x xs y back) [
@@ -39,7 +41,8 @@ module _ {X : Type 0} (key : X → ℕ) where
     ]
   ]
 
-  tails_have : (x : X) (xs : List X) (y : X) (ys : List X) → x ≡ y → AllPairs (λ x y. key x < key y) (x ∷ xs) → ((z : X) → Contains (x ∷ xs) z → Contains (y ∷ ys) z) → (z : X) → Contains xs z → Contains ys z
+  tails_have : (x : X) (xs : List X) (y : X) (ys : List X) → x ≡ y → AllPairs (λ x y. key x < key y) (x ∷ xs)
+      → ((z : X) → Contains (x ∷ xs) z → Contains (y ∷ ys) z) → (z : X) → Contains xs z → Contains ys z
   tails_have x xs y ys same rises there z later = elim (contains_cases y ys z (there z (contains_tail x xs z later))) [
     | inl first ↦ absurd (let up = rises_head x xs rises z later in let level = ap key (same ∙ first) in omega (arith, up, level))
     | inr rest ↦ rest
@@ -57,8 +60,12 @@ module _ {X : Type 0} (key : X → ℕ) where
       (tails_have x xs y ys same rises there) (tails_have y ys x xs (sym same) rises' back))
 
 module _ (count : ℕ) (pairs : List Pair) where
+  abbrev AllJoined : List ℕ → Type 0
+  AllJoined class = (x y : ℕ) → Contains class x → Contains class y → AreJoined pairs x y
+
   -- two classes that share a member are one
-  one_class : (classes : List (List ℕ)) → AreClasses count pairs classes → (class other : List ℕ) (x : ℕ) → Contains classes class → Contains classes other → Contains class x → Contains other x → class ≡ other
+  one_class : (classes : List (List ℕ)) → AreClasses count pairs classes → (class other : List ℕ) (x : ℕ)
+      → Contains classes class → Contains classes other → Contains class x → Contains other x → class ≡ other
   one_class classes are class other x (i, within, is) (j, within', is') inside inside' =
       let here : get_or classes j class ≡ other = get_or_default classes j class other within' ∙ is' in
       elim (cases_order i j) [
@@ -70,17 +77,19 @@ module _ (count : ℕ) (pairs : List Pair) where
       ]
 
   -- the members of a class are in one class of the other list
-  members_within : (classes others : List (List ℕ)) → AreClasses count pairs classes → AreClasses count pairs others → (class other : List ℕ) (x : ℕ) → Contains classes class → Contains others other
+  members_within : (classes others : List (List ℕ)) → AreClasses count pairs classes → AreClasses count pairs others
+      → (class other : List ℕ) (x : ℕ) → Contains classes class → Contains others other
       → Contains class x → Contains other x → (z : ℕ) → Contains class z → Contains other z
   members_within classes others are are' class other x at at' inside inside' z member = elim (cases_eq x z) [
     | inl same ↦ subst (Contains other) same inside'
     | inr apart ↦
-        let (k, found, within, is, both) = are'.together x z apart (All-contains (λ c. (x y : ℕ) → Contains c x → Contains c y → AreJoined pairs x y) classes class are.joined at x z inside member) in
+        let (k, found, within, is, both) = are'.together x z apart (All-contains AllJoined classes class are.joined at x z inside member) in
         subst (λ c. Contains c z) (one_class others are' found other x (k, within, is) at' both.0 inside') both.1
   ]
 
   -- a class of the one list is a class of the other
-  class_within : (classes others : List (List ℕ)) → AreClasses count pairs classes → AreClasses count pairs others → (class : List ℕ) → Contains classes class → Contains others class
+  class_within : (classes others : List (List ℕ)) → AreClasses count pairs classes → AreClasses count pairs others
+      → (class : List ℕ) → Contains classes class → Contains others class
   class_within classes others are are' class at =
       let several = All-contains (λ c. 2 ≤ length c) classes class are.several at in
       let rising = All-contains IsStrictlyIncreasing classes class are.rising at in
@@ -89,7 +98,7 @@ module _ (count : ℕ) (pairs : List Pair) where
       let up : get_or class 0 0 < get_or class 1 0 = rising 0 (omega (arith, several)) in
       let other : get_or class 0 0 ≢ get_or class 1 0 = omega arith in
       let (k, found, within, is, both) = are'.together (get_or class 0 0) (get_or class 1 0) other
-      (All-contains (λ c. (x y : ℕ) → Contains c x → Contains c y → AreJoined pairs x y) classes class are.joined at (get_or class 0 0) (get_or class 1 0) first second) in
+      (All-contains AllJoined classes class are.joined at (get_or class 0 0) (get_or class 1 0) first second) in
       let rising' = All-contains IsStrictlyIncreasing others found are'.rising (k, within, is) in
       let same : found ≡ class = same_from_elements (λ x. x) found class (AllPairs-from_increasing found rising') (AllPairs-from_increasing class rising)
       (members_within others classes are' are found class (get_or class 0 0) (k, within, is) at both.0 first)
@@ -97,6 +106,7 @@ module _ (count : ℕ) (pairs : List Pair) where
       subst (Contains others) same (k, within, is)
 
   -- two lists of classes are equal
-  pub only_classes : (classes others : List (List ℕ)) → AreClasses count pairs classes → AreClasses count pairs others → others ≡ classes
+  pub only_classes : (classes others : List (List ℕ)) → AreClasses count pairs classes → AreClasses count pairs others
+      → others ≡ classes
   only_classes classes others are are' = same_from_elements (λ class. get_or class 0 0) others classes are'.ordered are.ordered
       (class_within others classes are' are) (class_within classes others are are')
