@@ -1,6 +1,7 @@
 pub mod Counts
 pub mod Files
-pub mod Reads
-pub mod Memory
-pub mod Texts
+pub mod FilesInMemory
 pub mod Puts
+pub mod Reads
+pub mod TextInMemory
+pub mod Texts

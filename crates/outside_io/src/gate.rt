@@ -7,7 +7,7 @@ pub trait Gate {
 }
 
 /// A gate that is always open.
-#[derive(Clone, Copy, Debug, Default, PartialEq, Eq)]
+#[derive(Clone, Copy, Debug)]
 pub struct OpenGate;
 
 impl Gate for OpenGate {

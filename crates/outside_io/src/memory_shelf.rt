@@ -1,8 +1,9 @@
 //! Files in memory.
-ghost use Rattle.std.specs.Prelude.{◌≡◌, ◌≢◌, ◌<◌, ◌≤◌, ◌+◌, ◌-◌, ◌^◌, List, Option, Some, None, ℕ, false, length, min, option_map};
-ghost use Rattle.outside_io.specs.Files.{File, first_named};
+ghost use Rattle.std.specs.Prelude.{◌≡◌, ◌<◌, ◌≤◌, List, ℕ, Some, false, length, min, option_map};
+ghost use Rattle.outside_io.specs.Counts.{Rose};
+ghost use Rattle.outside_io.specs.Files.{File, first_named, told};
+ghost use Rattle.outside_io.specs.FilesInMemory.{after_read, faults_of, files_of, new_shelf, part_of_file, read_answer};
 ghost use Rattle.outside_io.specs.Reads.{Gives};
-ghost use Rattle.outside_io.specs.Memory.{files_of};
 
 use crate::shelf::{Read, Shelf};
 use std::marker::Model;
@@ -20,11 +21,18 @@ pub struct MemShelf {
 
 impl Model for MemShelf {
     ghost use Rattle.std.specs.Prelude.{◌<◌};
-    ghost use Rattle.outside_io.specs.Memory.{MemoryFiles, files_of};
+    ghost use Rattle.outside_io.specs.FilesInMemory.{MemoryShelf, files_of};
 
-    ghost Value = { MemoryFiles };
+    ghost Value = { MemoryShelf };
 
-    ghost view = { λ s. record { files = files_of s.files.items; chunk = s.chunk; failing = s.failing.items; reads = s.reads; listed = s.listed; unheld = s.unheld } };
+    ghost view = { λ s. record {
+      files = files_of s.files.items;
+      chunk = s.chunk;
+      failing = s.failing.items;
+      reads = s.reads;
+      listed = s.listed;
+      unheld = s.unheld;
+    } };
 
     ghost invariant = { λ s. 0 < s.chunk };
 }
@@ -34,7 +42,7 @@ impl MemShelf {
     /// numbers from 1 are in `failing` fail.
     pub fn new(files: Vec<(String, Vec<u8>)>, chunk: usize, failing: Vec<u64>) -> MemShelf
         requires { 0 < chunk }
-        ensures { result ≡ record { files = files_of files.items; chunk = chunk; failing = failing.items; reads = 0; listed = 0; unheld = 0 } }
+        ensures { result ≡ new_shelf (files_of files.items) chunk failing.items }
     {
         MemShelf {
             files,
@@ -48,26 +56,36 @@ impl MemShelf {
 }
 
 impl Shelf for MemShelf {
-    ghost use Rattle.outside_io.specs.Memory.{faults_of};
-
     ghost held = { λ s. Some s.files };
 
     ghost gives_empty = { λ s. false };
 
     ghost faults = { faults_of };
 
-    fn read(&mut self, name: &str, at: u64, into: &mut [u8]) -> Read {
+    fn read(&mut self, name: &str, at: u64, into: &mut [u8]) -> Read
+        requires { 0 < length into.old }
+        ensures answer { result ≡ read_answer self.old name.now at (length into.old) }
+        ensures after { self.new ≡ after_read self.old name.now }
+
+        // As each shelf does.
+        ensures gives { Gives (told (Some self.old.files) false name.now) at into.new result }
+        ensures failed { result ≡ Read.Failed →
+            Rose (faults_of self.old name.now) (faults_of self.new name.now) }
+        ensures counts { (other : List ℕ) → faults_of self.old other ≤ faults_of self.new other }
+        ensures holds { Some self.new.files ≡ Some self.old.files }
+    {
         self.reads = self.reads.saturating_add(1);
+        let file = file_of(self.files.as_slice(), name);
+        if file.is_none() {
+            self.unheld = self.unheld.saturating_add(1);
+        }
         if self.failing.contains(&self.reads) {
             self.listed = self.listed.saturating_add(1);
             return Read::Failed;
         }
-        match file_of(self.files.as_slice(), name) {
+        match file {
             Some(file) => part_of(file, at, self.chunk, into),
-            None => {
-                self.unheld = self.unheld.saturating_add(1);
-                Read::Failed
-            }
+            None => Read::Failed,
         }
     }
 }
@@ -89,7 +107,7 @@ fn part_of(file: &[u8], at: u64, chunk: usize, into: &mut [u8]) -> Read
     requires chunk { 0 < chunk }
     requires room { 0 < length into.old }
     ensures gives { Gives (File file.now) at into.new result }
-    ensures some { result ≢ Read.Failed }
+    ensures answer { result ≡ part_of_file at (min chunk (length into.old)) (Some file.now) }
 {
     let start = at as usize;
     if start >= file.len() {

@@ -1,7 +1,8 @@
 //! A text in memory.
-ghost use Rattle.std.specs.Prelude.{◌≡◌, ◌<◌, ◌≤◌, ◌+◌, ◌++◌, ◌||◌, [], List, ℕ, Some, length, take, min, IfOk, nat_lt, if◌then◌else◌};
-ghost use Rattle.outside_io.specs.Counts.{next, Rose};
+ghost use Rattle.std.specs.Prelude.{◌≡◌, ◌<◌, ◌≤◌, Some, length, IfOk};
+ghost use Rattle.outside_io.specs.Counts.{Rose};
 ghost use Rattle.outside_io.specs.Puts.{Takes};
+ghost use Rattle.outside_io.specs.TextInMemory.{after_put, new_sink, put_answer};
 
 use crate::no_memory::NoMemory;
 use crate::sink::{Put, Sink};
@@ -21,13 +22,21 @@ pub struct MemSink {
 
 impl Model for MemSink {
     ghost use Rattle.std.specs.Prelude.{◌<◌, ◌≤◌, vec_len, vec_capacity};
-    ghost use Rattle.outside_io.specs.Memory.{MemoryText};
+    ghost use Rattle.outside_io.specs.TextInMemory.{MemorySink};
 
-    ghost Value = { MemoryText };
+    ghost Value = { MemorySink };
 
-    ghost view = { λ s. record { text = s.text.items; room = s.room; chunk = s.chunk; failing = s.failing.items; puts = s.puts; faults = s.faults } };
+    ghost view = { λ s. record {
+      text = s.text.items;
+      room = s.room;
+      chunk = s.chunk;
+      failing = s.failing.items;
+      puts = s.puts;
+      faults = s.faults;
+    } };
 
-    ghost invariant = { λ s. (0 < s.chunk) × (vec_len s.text ≤ s.room) × (s.room ≤ vec_capacity s.text) };
+    ghost invariant = { λ s.
+        (0 < s.chunk) × (vec_len s.text ≤ s.room) × (s.room ≤ vec_capacity s.text) };
 }
 
 impl MemSink {
@@ -41,7 +50,7 @@ impl MemSink {
         failing: Vec<u64>,
     ) -> Result<MemSink, NoMemory>
         requires { 0 < chunk }
-        ensures { IfOk result (λ s. s ≡ record { text = []; room = room; chunk = chunk; failing = failing.items; puts = 0; faults = 0 }) }
+        ensures { IfOk result (λ s. s ≡ new_sink room chunk failing.items) }
     {
         let text = Vec::with_capacity(alloc, room)?;
         Ok(MemSink {
@@ -67,7 +76,16 @@ impl Sink for MemSink {
 
     ghost faults = { λ s. s.faults };
 
-    fn put(&mut self, piece: &[u8]) -> Put {
+    fn put(&mut self, piece: &[u8]) -> Put
+        requires { 0 < length piece.now }
+        ensures answer { result ≡ put_answer self.old piece.now }
+        ensures after { self.new ≡ after_put self.old piece.now }
+
+        // As each sink does.
+        ensures takes { Takes piece.now (Some self.old.text) (Some self.new.text) result }
+        ensures failed { result ≡ Put.Failed → Rose self.old.faults self.new.faults }
+        ensures counts { self.old.faults ≤ self.new.faults }
+    {
         self.puts = self.puts.saturating_add(1);
         let count = self.chunk.min(piece.len());
         if self.failing.contains(&self.puts) || count > self.room - self.text.len() {

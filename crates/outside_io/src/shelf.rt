@@ -30,8 +30,10 @@ pub trait Shelf {
     /// A read of a name that is not held is a fault, unless such names are read as empty files.
     fn read(&mut self, name: &str, at: u64, into: &mut [u8]) -> Read
         requires { 0 < length into.old }
-        ensures gives { Gives (told (held self.old) (gives_empty self.old) name.now) at into.new result }
-        ensures failed { result ≡ Read.Failed → Rose (faults self.old name.now) (faults self.new name.now) }
+        ensures gives { let file = told (held self.old) (gives_empty self.old) name.now in
+            Gives file at into.new result }
+        ensures failed { result ≡ Read.Failed →
+            Rose (faults self.old name.now) (faults self.new name.now) }
         ensures counts { (other : List ℕ) → faults self.old other ≤ faults self.new other }
         ensures holds { held self.new ≡ held self.old }
         ensures flag { gives_empty self.new ≡ gives_empty self.old };

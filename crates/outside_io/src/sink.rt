@@ -13,7 +13,7 @@ pub enum Put {
     Failed,
 }
 
-/// A put failed.
+/// A put failed, so not the whole of a piece was put.
 #[derive(Clone, Copy, Debug, PartialEq, Eq)]
 pub struct WriteFailed;
 

@@ -1,8 +1,10 @@
 //! The files, the standard output and the standard error of the machine. What they give and receive
 //! is not told, and no more is known of it than the counts that the machine reports.
-ghost use Rattle.std.specs.Prelude.{◌≡◌, ◌<◌, ◌≤◌, None, false, ℕ, length, IfOk};
-ghost use Rattle.outside_io.specs.Counts.{next, Rose};
-ghost use Rattle.outside_io.specs.Puts.{Takes};
+ghost use Rattle.std.specs.Prelude.{◌≡◌, ◌<◌, ◌≤◌, None, false, List, ℕ, length, IfOk};
+ghost use Rattle.outside_io.specs.Counts.{Rose};
+ghost use Rattle.outside_io.specs.Files.{Untold};
+ghost use Rattle.outside_io.specs.Puts.{Takes, faults_after_put};
+ghost use Rattle.outside_io.specs.Reads.{Gives, faults_after_read};
 
 use crate::shelf::{Read, Shelf};
 use crate::sink::{Put, Sink};
@@ -11,7 +13,8 @@ use std::marker::Model;
 use std::rt::Files;
 use std::{fs, io};
 
-/// The files of the machine. One count of faults serves every name.
+/// The files of the machine. A read that the machine refuses is a fault, and one count of faults
+/// serves every name.
 #[derive(Drop)]
 pub struct FileShelf<'a, R: Files> {
     rt: &'a R,
@@ -25,6 +28,7 @@ impl<'a, R: Files> Model for FileShelf<'a, R> {
 }
 
 impl<'a, R: Files> FileShelf<'a, R> {
+    /// The files that this runtime reaches, with no fault counted yet.
     pub fn new(rt: &'a R) -> FileShelf<'a, R>
         ensures { result ≡ 0 }
     {
@@ -39,7 +43,15 @@ impl<'a, R: Files> Shelf for FileShelf<'a, R> {
 
     ghost faults = { λ s name. s };
 
-    fn read(&mut self, name: &str, at: u64, into: &mut [u8]) -> Read {
+    fn read(&mut self, name: &str, at: u64, into: &mut [u8]) -> Read
+        requires { 0 < length into.old }
+        ensures count { self.new ≡ faults_after_read self.old result }
+
+        // As each shelf does.
+        ensures gives { Gives Untold at into.new result }
+        ensures failed { result ≡ Read.Failed → Rose self.old self.new }
+        ensures counts { (other : List ℕ) → self.old ≤ self.new }
+    {
         match read_at(self.rt, name, at, into) {
             Ok(0) => Read::End,
             Ok(count) => Read::Bytes(count),
@@ -51,7 +63,7 @@ impl<'a, R: Files> Shelf for FileShelf<'a, R> {
     }
 }
 
-/// Reads from a place of a file on. No file is kept open, so a shelf takes no memory.
+/// Reads from a place of a file on. No file is kept open, so that a shelf takes no memory.
 fn read_at<R: Files>(rt: &R, name: &str, at: u64, into: &mut [u8]) -> io::Result<usize>
     ensures { IfOk result (λ count. count ≤ length into.new) }
 {
@@ -60,7 +72,7 @@ fn read_at<R: Files>(rt: &R, name: &str, at: u64, into: &mut [u8]) -> io::Result
     file.read(into)
 }
 
-/// The standard output of the machine.
+/// The standard output of the machine. A write that fails, or that takes nothing, is a fault.
 #[derive(Drop)]
 pub struct OutSink<W: Write + Drop> {
     inner: W,
@@ -74,6 +86,7 @@ impl<W: Write + Drop> Model for OutSink<W> {
 }
 
 impl<W: Write + Drop> OutSink<W> {
+    /// Writes to the standard output, which is passed as `inner`. No fault is counted yet.
     pub fn new(inner: W) -> OutSink<W>
         ensures { result ≡ 0 }
     {
@@ -86,12 +99,20 @@ impl<W: Write + Drop> Sink for OutSink<W> {
 
     ghost faults = { λ s. s };
 
-    fn put(&mut self, piece: &[u8]) -> Put {
+    fn put(&mut self, piece: &[u8]) -> Put
+        requires { 0 < length piece.now }
+        ensures count { self.new ≡ faults_after_put self.old result }
+
+        // As each sink does.
+        ensures takes { Takes piece.now None None result }
+        ensures failed { result ≡ Put.Failed → Rose self.old self.new }
+        ensures counts { self.old ≤ self.new }
+    {
         write_some(&mut self.inner, piece, &mut self.faults)
     }
 }
 
-/// The standard error of the machine.
+/// The standard error of the machine. A write that fails, or that takes nothing, is a fault.
 #[derive(Drop)]
 pub struct ErrSink<W: Write + Drop> {
     inner: W,
@@ -105,6 +126,7 @@ impl<W: Write + Drop> Model for ErrSink<W> {
 }
 
 impl<W: Write + Drop> ErrSink<W> {
+    /// Writes to the standard error, which is passed as `inner`. No fault is counted yet.
     pub fn new(inner: W) -> ErrSink<W>
         ensures { result ≡ 0 }
     {
@@ -117,16 +139,25 @@ impl<W: Write + Drop> Sink for ErrSink<W> {
 
     ghost faults = { λ s. s };
 
-    fn put(&mut self, piece: &[u8]) -> Put {
+    fn put(&mut self, piece: &[u8]) -> Put
+        requires { 0 < length piece.now }
+        ensures count { self.new ≡ faults_after_put self.old result }
+
+        // As each sink does.
+        ensures takes { Takes piece.now None None result }
+        ensures failed { result ≡ Put.Failed → Rose self.old self.new }
+        ensures counts { self.old ≤ self.new }
+    {
         write_some(&mut self.inner, piece, &mut self.faults)
     }
 }
 
-/// Writes the first bytes of a piece. It is a fault too where nothing of the piece is taken.
+/// Writes the first bytes of a piece, and counts a write that fails or takes nothing.
 fn write_some<W: Write>(inner: &mut W, piece: &[u8], faults: &mut u64) -> Put
     requires { 0 < length piece.now }
     ensures takes { Takes piece.now None None result }
-    ensures failed { result ≡ Put.Failed → faults.new ≡ next faults.old }
+    ensures count { faults.new ≡ faults_after_put faults.old result }
+    ensures failed { result ≡ Put.Failed → Rose faults.old faults.new }
     ensures counts { faults.old ≤ faults.new }
 {
     match inner.write(piece) {

@@ -29,7 +29,7 @@ impl From<AllocError> for ReadEnd {
     }
 }
 
-/// Reads a file of at most `limit` bytes whole.
+/// Reads a file of at most `limit` bytes whole. The first read that fails ends it.
 pub fn read_whole<S: Shelf>(
     alloc: Global,
     shelf: &mut S,
@@ -37,10 +37,13 @@ pub fn read_whole<S: Shelf>(
     limit: u64,
 ) -> Result<Vec<u8>, ReadEnd>
     requires { limit < 2 ^ 32 }
-    ensures whole { IfOk result (λ bytes. IsWhole (told (S.held shelf.old) (S.gives_empty shelf.old) name.now) bytes.items) }
+    ensures whole { let file = told (S.held shelf.old) (S.gives_empty shelf.old) name.now in
+        IfOk result (λ bytes. IsWhole file bytes.items) }
     ensures within { IfOk result (λ bytes. length bytes.items ≤ limit) }
-    ensures long { result ≡ Err ReadEnd.TooLong → IsLonger (told (S.held shelf.old) (S.gives_empty shelf.old) name.now) limit }
-    ensures failed { result ≡ Err ReadEnd.Failed → Rose (S.faults shelf.old name.now) (S.faults shelf.new name.now) }
+    ensures long { let file = told (S.held shelf.old) (S.gives_empty shelf.old) name.now in
+        result ≡ Err ReadEnd.TooLong → IsLonger file limit }
+    ensures failed { result ≡ Err ReadEnd.Failed →
+        Rose (S.faults shelf.old name.now) (S.faults shelf.new name.now) }
     ensures counts { (other : List ℕ) → S.faults shelf.old other ≤ S.faults shelf.new other }
     ensures holds { S.held shelf.new ≡ S.held shelf.old }
     ensures flag { S.gives_empty shelf.new ≡ S.gives_empty shelf.old }

@@ -1,0 +1,5 @@
+pub mod Chains
+pub mod Links
+pub mod Members
+pub mod Partition
+pub mod Unique

@@ -1,0 +1,5 @@
+use Rattle.mo_connect.specs.Chain.{AreBelow}
+use Rattle.mo_connect.proofs.tests.listed.Given as goal
+
+abbrev pub invariant-loop-a : goal.invariant-loop-a
+invariant-loop-a g l = AreBelow l.count l.list
