@@ -2,3 +2,4 @@ pub mod Divisors
 pub mod Floors
 pub mod Fractions
 pub mod Counting
+pub mod TimeTexts

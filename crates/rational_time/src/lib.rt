@@ -5,8 +5,10 @@ mod divisor;
 mod fraction;
 mod ratio;
 mod ticks;
+mod time_text;
 
 pub use divisor::gcd;
 pub use fraction::{compare, make, plus, scaled};
 pub use ratio::Ratio;
 pub use ticks::ticks_until;
+pub use time_text::{RatioFault, read};
