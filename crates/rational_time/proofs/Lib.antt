@@ -1,5 +1,8 @@
+pub mod Counting
 pub mod Divisors
 pub mod Floors
 pub mod Fractions
-pub mod Counting
+pub mod Meetings
+pub mod Multiples
+pub mod Signs
 pub mod TimeTexts
