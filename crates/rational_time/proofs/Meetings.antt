@@ -1,8 +1,8 @@
 -- Where two clocks meet: two rising series of whole numbers share a number exactly where the greatest common divisor of their steps divides the distance of their firsts.
-use Rattle.std.proofs.Common.{◌≡◌, sym, subst, ap, ℕ, zero, suc, ◌+◌, ◌-◌, ◌*◌, ◌/◌, ◌<◌, ◌≤◌, ⊎_elim, arith, mul-pos, le_of_lt}
+use Rattle.std.proofs.Common.{◌∙◌, ◌%◌, IsTrue, nat_eq, eq-eqb, eqb-true, ◌↔◌, ◌≡◌, sym, subst, ap, ℕ, zero, suc, ◌+◌, ◌-◌, ◌*◌, ◌/◌, ◌<◌, ◌≤◌, ⊎_elim, arith, mul-pos, le_of_lt}
 use Rattle.std.specs.Int.{IsGcd, ◌∣◌, abs_diff}
 use Rattle.std.proofs.lemmas.Nat.Gcd.{IsGcd-swap}
-use Rattle.std.proofs.Math.Nat.{dvd-mul_left_of_dvd, dvd-add_iff_right, mul-div_cancel', eq_of_mul-eq-mul_right}
+use Rattle.std.proofs.Math.Nat.{dvd_of_mod-eq-zero, mod-eq-zero_of_dvd, dvd-mul_left_of_dvd, dvd-add_iff_right, mul-div_cancel', eq_of_mul-eq-mul_right}
 use Rattle.std.proofs.lemmas.Bool.{cases_lt}
 use Rattle.rational_time.proofs.Divisors.{bezout}
 
@@ -65,3 +65,19 @@ above (suc u) n d l p e = omega arith
 -- what is not 0 has units
 pub units_positive : (u n d l : ℕ) → 0 < n → 0 < l → u * d ≡ n * l → 0 < u
 units_positive u n d l p q e = above u n d l (mul-pos p q) e
+
+-- two clocks, counted in units of 1/l, share an instant exactly where the divisor of the steps divides the distance x of the firsts
+pub share_decided : (l sn sd pn pd a p rn rd qn qd b q g x : ℕ) → 0 < l → 0 < sd → 0 < pd → 0 < rd → 0 < qd → 0 < pn → 0 < qn →
+    a * sd ≡ sn * l → p * pd ≡ pn * l → b * rd ≡ rn * l → q * qd ≡ qn * l → IsGcd p q g → x ≡ abs_diff a b →
+    (IsTrue (nat_eq (x % g) 0)) ↔ ((i : ℕ) × (j : ℕ) × ((sn * pd + i * pn * sd) * (rd * qd) ≡ (rn * qd + j * qn * rd) * (sd * pd)))
+share_decided l sn sd pn pd a p rn rd qn qd b q g x pl psd ppd prd pqd ppn pqn ea ep eb eq h e =
+    let step = units_positive p pn pd l ppn pl ep in
+    let other_step = units_positive q qn qd l pqn pl eq in (
+      λ even.
+          let divided : g ∣ abs_diff a b = subst (λ n. g ∣ n) e (dvd_of_mod-eq-zero g (eqb-true _ _ even)) in
+          let m = shared a b p q g step other_step h divided in
+          (m.0, m.1, units_tick l sn sd pn pd a p m.0 rn rd qn qd b q m.1 pl ea ep eb eq m.2),
+      λ (i, j, same).
+          let divided = distance_divided a b p q g i j h (tick_units l sn sd pn pd a p i rn rd qn qd b q j pl psd ppd prd pqd ea ep eb eq same) in
+          eq-eqb _ _ (ap (λ n. n % g) e ∙ mod-eq-zero_of_dvd g divided),
+    )

@@ -54,3 +54,7 @@ lcm_fits a b (Some n) h k = refl
 lcm_fits a b None h k =
     let found = k.0 refl in
     absurd (omega (arith, found.2, h.below, le_of_dvd h.positive (found.1.least h.multiple h.divided.0 h.divided.1.0)))
+
+-- the least common multiple of four numbers is not 0
+pub common_positive : (a b d e m n l : ℕ) → 0 < a → 0 < b → 0 < d → 0 < e → IsLcm a b m → IsLcm d e n → IsLcm m n l → 0 < l
+common_positive a b d e m n l p q r s h k both = IsLcm-positive m n l (IsLcm-positive a b m p q h) (IsLcm-positive d e n r s k) both

@@ -31,17 +31,18 @@ pub fn ticks_until(period: Ratio, start: Ratio, stop: Ratio) -> u128
 pub fn share_instant(p: Ratio, s: Ratio, q: Ratio, r: Ratio) -> bool
     requires first_rising { 0 < p.num }
     requires second_rising { 0 < q.num }
-    requires first_period { ArePartsBelow (2 ^ 40) p }
-    requires first_start { ArePartsBelow (2 ^ 40) s }
-    requires second_period { ArePartsBelow (2 ^ 40) q }
-    requires second_start { ArePartsBelow (2 ^ 40) r }
     requires grain { HasMultipleBelow (2 ^ 40) (p.den ∷ s.den ∷ q.den ∷ r.den ∷ []) }
     ensures { IsTrue result ↔ ((i : ℕ) × (j : ℕ) × IsSameTick p s i q r j) }
 {
     let grain = common_multiple(common_multiple(p.den, s.den), common_multiple(q.den, r.den));
-    // A common divisor of the periods divides every distance of two ticks that is reached.
-    let divisor = wide_gcd(units(p, grain), units(q, grain));
-    units(s, grain).abs_diff(units(r, grain)) % divisor == 0
+    let first = units(s, grain);
+    let step = units(p, grain);
+    let other = units(r, grain);
+    let other_step = units(q, grain);
+    // Whole steps make up just the distances that every common divisor of the steps divides.
+    let divisor = wide_gcd(step, other_step);
+    let rest = first.abs_diff(other) % divisor;
+    rest == 0
 }
 
 /// The least common multiple of two numbers that have one below 2^40.
