@@ -71,9 +71,13 @@ lowest_of n d g p q h k a b = rw (a, b) (lowest_quotients n d g h k)
 pub IsGcd-prop : (a b g : ℕ) → IsProp (IsGcd a b g)
 IsGcd-prop a b g = hlevel ∣_prop
 
--- a value of n/d is n/d in lowest terms
+-- the parts of a ratio have no common divisor
+pub IsGcd-ratio : (r : Ratio) → IsGcd r.num r.den 1
+IsGcd-ratio r = ∥∥₁_elim r.lowest (IsGcd-prop r.num r.den 1) (λ h. h)
+
+-- a ratio of the value n/d is n/d in lowest terms
 pub IsLowest-ratio : (r : Ratio) (n d : ℕ) → IsFraction r n d → IsLowest r.num r.den n d
-IsLowest-ratio r n d e = record { positive = r.positive; same = e; lowest = ∥∥₁_elim r.lowest (IsGcd-prop r.num r.den 1) (λ h. h) }
+IsLowest-ratio r n d e = record { positive = r.positive; same = e; lowest = IsGcd-ratio r }
 
 -- what exceeds limits exceeds lower ones
 pub exceeds_lower : (a b x y n d : ℕ) → x ≤ a → y ≤ b → Exceeds a b n d → Exceeds x y n d

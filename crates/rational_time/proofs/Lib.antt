@@ -4,5 +4,6 @@ pub mod Floors
 pub mod Fractions
 pub mod Meetings
 pub mod Multiples
+pub mod Order
 pub mod Signs
 pub mod TimeTexts
