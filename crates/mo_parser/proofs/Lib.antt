@@ -1,0 +1,2 @@
+mod FirstTurns
+mod FirstNaming

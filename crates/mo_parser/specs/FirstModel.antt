@@ -12,12 +12,16 @@ pub record IsFirstClock (model : FirstModel) : Type 0 where
   pub resolution_low : 1 ≤ model.resolution
   pub resolution_high : model.resolution < 2 ^ 31
 
+-- no two names are equal
+abbrev pub AreDistinct : List (List ℕ) → Type 0
+AreDistinct names = (x y : ℕ) (name : List ℕ) → slice_get names x ≡ Some name → slice_get names y ≡ Some name → x ≡ y
+
 -- names that are short and no two of which are equal, each with a start, in equations that can be taken in their order
 pub record IsFirstModel (model : FirstModel) : Type 0 where
   pub ordered : IsOrdered model
   pub starts : length model.starts ≡ length model.names
   pub few : length model.names ≤ 65536
   pub clock : IsFirstClock model
-  pub distinct : (x y : ℕ) (name : List ℕ) → slice_get model.names x ≡ Some name → slice_get model.names y ≡ Some name → x ≡ y
+  pub distinct : AreDistinct model.names
   pub short : All (λ name. length name ≤ 128) model.names
   pub numbers : (i : ℕ) (e : FirstEq) (n : ℤ) → slice_get model.equations i ≡ Some e → Contains e.terms (Number n) → pos 0 ≤ℤ n

@@ -1,2 +1,6 @@
 pub mod Ordered
 pub mod FirstModel
+pub mod FirstForm
+pub mod FirstNames
+pub mod FirstPlain
+pub mod FirstReading
