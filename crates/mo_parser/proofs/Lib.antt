@@ -1,2 +1,4 @@
 mod FirstTurns
 mod FirstNaming
+mod FirstSound
+mod FirstComplete
