@@ -16,7 +16,7 @@ use Rattle.mo_parser.specs.declared.first_model.FirstTerm.{FirstTerm}
 use Rattle.mo_parser.specs.declared.first_model.FirstTerm.TheVariants.{Number, Read, Previous}
 use Rattle.mo_parser.specs.FirstModel.{AreDistinct, IsFirstClock}
 use Rattle.mo_parser.specs.FirstForm.{Lexeme, Name, Whole, Key, Mark, Finish, Foreign, Start, no_start, start as a_start, negative, Declarations, no_declaration, declaration as a_declaration, Clock, counted, resolved, Atom, number, read, previous, Sum, one, plus, Equations, no_equation, equation as an_equation, Form, form}
-use Rattle.mo_parser.specs.FirstReading.{Outcome, Parser, Took, Stuck, ◌>>=◌, head, tail, is_mark, is_key, is_named, is_name, is_whole, taken, mark, key, named, name, whole, finish, signed, start, declaration, declarations, clock, clock_number, resolution, index_by, number_of, declared, named_atom, named_atom_by, atom, atom_by, sum, sum_by, equation, equations, heading, opening, closing, model}
+use Rattle.mo_parser.specs.FirstReading.{Outcome, Parser, Took, Stuck, ◌>>=◌, head, tail, is_mark, is_key, is_named, is_name, is_whole, taken, mark, key, named, name, whole, finish, signed, start, declaration, declarations, clock, clock_number, resolution, index_by, number_of, declared, named_atom, named_atom_by, atom, atom_by, sum, sum_by, equation, equations, heading, opening, closing, clause, model}
 
 same_bytes : (s : List ℕ) → bytes_eq s s ≡ true
 same_bytes s = (bytes_eq-Decides s s).1 refl
@@ -150,7 +150,7 @@ module _ (names : List (List ℕ)) (distinct : AreDistinct names) (few : length 
 
 -- a model that the tokens spell is read
 pub model_read : (m : FirstModel) (a : List Lexeme) → Form m a → AreDistinct m.names → length m.names ≤ 65536 → IsFirstClock m → model a ≡ Took m []
-unfolding model heading opening closing key named mark name
+unfolding model clause heading opening closing key named mark name
 model_read m a (form title names starts counter resolution es b c d declared_so clocked equal) distinct few within =
     let opens = Key KwWhen ∷ Name (codes "Clock") ∷ Mark RoundOpen ∷ c in
     let closes = Key KwWhen ∷ Mark Semicolon ∷ Key KwEnd ∷ Name title ∷ Mark Semicolon ∷ Finish ∷ [] in

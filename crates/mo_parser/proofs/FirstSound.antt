@@ -20,7 +20,7 @@ use Rattle.mo_parser.specs.declared.first_model.FirstTerm.{FirstTerm}
 use Rattle.mo_parser.specs.declared.first_model.FirstTerm.TheVariants.{Number, Read, Previous}
 use Rattle.mo_parser.specs.FirstModel.{IsFirstClock}
 use Rattle.mo_parser.specs.FirstForm.{Lexeme, Name, Whole, Key, Mark, Finish, Foreign, Start, no_start, start as a_start, negative, Declarations, no_declaration, declaration as a_declaration, Clock, counted, resolved, Atom, number, read, previous, Sum, one, plus, Equations, no_equation, equation as an_equation, Form, form}
-use Rattle.mo_parser.specs.FirstReading.{Outcome, Parser, Took, Stuck, ◌>>=◌, head, tail, is_mark, is_key, is_named, is_name, is_whole, taken, mark, key, named, name, whole, finish, signed, signed_by, start, start_by, declaration, declarations, declarations_by, clock, clock_number, clock_number_by, resolution, resolution_by, index_by, number_of, declared, named_atom, named_atom_by, atom, atom_by, sum, sum_by, equation, equations, equations_by, heading, opening, closing, model}
+use Rattle.mo_parser.specs.FirstReading.{Outcome, Parser, Took, Stuck, ◌>>=◌, head, tail, is_mark, is_key, is_named, is_name, is_whole, taken, mark, key, named, name, whole, finish, signed, signed_by, start, start_by, declaration, declarations, declarations_by, clock, clock_number, clock_number_by, resolution, resolution_by, index_by, number_of, declared, named_atom, named_atom_by, atom, atom_by, sum, sum_by, equation, equations, equations_by, heading, opening, closing, clause, model, model_of}
 
 -- what a sequence read, part by part
 took : {A B : Type 0} (o : Outcome A) (f : A → Parser B) (y : B) (rest : List Lexeme) → (o >>= f) ≡ Took y rest → (x : A) × (after : List Lexeme) × (o ≡ Took x after) × (f x after ≡ Took y rest)
@@ -361,11 +361,12 @@ closing_took title u a b h =
 
 -- a model that was read is spelled by the tokens, and its clock is in range
 pub model_spelled : (m : FirstModel) (a b : List Lexeme) → model a ≡ Took m b → Form m a × IsFirstClock m
-unfolding model
+unfolding model clause
 model_spelled m a b h =
     let (title, a1, h1, later1) = took _ _ _ _ h in
     let (d, a2, h2, later2) = took _ _ _ _ later1 in
-    let (u, a3, h3, later3) = took _ _ _ _ later2 in
+    let (c, a8, h8, later8) = took _ _ _ _ later2 in
+    let (u, a3, h3, later3) = took _ _ _ _ h8 in
     let (k, a4, h4, later4) = took _ _ _ _ later3 in
     let (v, a5, h5, later5) = took _ _ _ _ later4 in
     let (es, a6, h6, later6) = took _ _ _ _ later5 in
@@ -373,7 +374,8 @@ model_spelled m a b h =
     let (names, starts, names_are, starts_are, declared_so) = declarations_spelled (length a1) [] [] d a1 a2 h2 in
     let (clocked, low, high) = clock_spelled k a3 a4 h4 in
     let (more, es_are, equal) = equations_spelled d.0 (length a5) [] es a5 a6 h6 in
-    let (made, same) = last_took (record { names = d.0; starts = d.1; counter = k.0; resolution = k.1; equations = es }) m a7 b later7 in
+    let (clause_is, ends) = last_took (k, es) c a7 a8 later7 in
+    let (made, same) = last_took (model_of d c) m a8 b later8 in
     let D : List (List ℕ) → List ℤ → List Lexeme → Type 0 = λ ns ss ts. Declarations ns ss a1 ts in
     let opens : a2 ≡ Key KwEquation ∷ Key KwWhen ∷ Name (codes "Clock") ∷ Mark RoundOpen ∷ a3 = opening_took u a2 a3 h3 in
     let thens : a4 ≡ Key KwThen ∷ a5 = key_took KwThen v a4 a5 h5 in
@@ -383,5 +385,5 @@ model_spelled m a b h =
     let body_part = subst (λ ts. Equations d.0 es a5 ts) closes (subst (λ xs. Equations d.0 xs a5 a6) (sym es_are) equal) in
     let P : FirstModel → Type 0 = λ x. Form x a × IsFirstClock x in
     let whole_form = form title d.0 d.1 k.0 k.1 es a1 a3 a5 head_part clock_part body_part in
-    let here = subst (λ ts. Form (record { names = d.0; starts = d.1; counter = k.0; resolution = k.1; equations = es }) ts) (sym (heading_took title a a1 h1)) whole_form in
-    subst P made (here, record { counter_low = low.0; counter_high = low.1; resolution_low = high.0; resolution_high = high.1 })
+    let here = subst (λ ts. Form (model_of d (k, es)) ts) (sym (heading_took title a a1 h1)) whole_form in
+    subst P (ap (model_of d) clause_is ∙ made) (here, record { counter_low = low.0; counter_high = low.1; resolution_low = high.0; resolution_high = high.1 })

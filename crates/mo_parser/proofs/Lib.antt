@@ -2,3 +2,6 @@ mod FirstTurns
 mod FirstNaming
 mod FirstSound
 mod FirstComplete
+mod FirstParts
+mod FirstGaps
+mod FirstOrdering

@@ -220,7 +220,13 @@ unfoldable pub closing : List ℕ → Parser (Unit {0})
 closing title ts =
     key KwEnd ts >>= (λ u a. key KwWhen a >>= (λ u b. mark Semicolon b >>= (λ u c. key KwEnd c >>= (λ u d. named title d >>= (λ u e. mark Semicolon e >>= (λ u f. finish f))))))
 
+-- the clause with its clock, up to the end of the text
+unfoldable pub clause : List ℕ → List (List ℕ) → Parser ((ℕ × ℕ) × List FirstEq)
+clause title names ts =
+    opening ts >>= (λ u a. clock a >>= (λ k b. key KwThen b >>= (λ u c. equations names (length c) [] c >>= (λ es d. closing title d >>= (λ u rest. Took (k, es) rest)))))
+
+abbrev pub model_of : List (List ℕ) × List ℤ → (ℕ × ℕ) × List FirstEq → FirstModel
+model_of d c = record { names = d.0; starts = d.1; counter = c.0.0; resolution = c.0.1; equations = c.1 }
+
 unfoldable pub model : Parser FirstModel
-model ts =
-    heading ts >>= (λ title a. declarations (length a) [] [] a >>= (λ d b. opening b >>= (λ u c. clock c >>= (λ k e. key KwThen e >>= (λ u f. equations d.0 (length f) [] f >>= (λ es g. closing title g >>= (λ u rest.
-    Took (record { names = d.0; starts = d.1; counter = k.0; resolution = k.1; equations = es }) rest)))))))
+model ts = heading ts >>= (λ title a. declarations (length a) [] [] a >>= (λ d b. clause title d.0 b >>= (λ c rest. Took (model_of d c) rest)))

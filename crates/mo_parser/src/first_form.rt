@@ -96,7 +96,7 @@ fn resolution(tokens: &mut Reader<'_>) -> Result<u32, FirstEnd>
 
 /// The counter and the resolution of the clock, with the bracket that closes it.
 #[tactic(auto, unfolding(crate::specs::FirstReading::clock))]
-pub fn clock(tokens: &mut Reader<'_>) -> Result<(u32, u32), FirstEnd>
+fn clock(tokens: &mut Reader<'_>) -> Result<(u32, u32), FirstEnd>
     ensures { Reads (spec.clock tokens.old) result tokens.new }
 {
     let counter = clock_number(tokens)?;
@@ -191,7 +191,7 @@ fn equation(
 
 /// The equations of the clause.
 #[tactic(auto, unfolding(crate::specs::FirstReading::equations))]
-pub fn equations(
+fn equations(
     alloc: Global,
     tokens: &mut Reader<'_>,
     scope: &IndexSet<Vec<u8>>,
@@ -219,7 +219,7 @@ pub fn heading<'a>(tokens: &mut Reader<'a>) -> Result<&'a [u8], FirstEnd>
 
 /// What stands between the declarations and the numbers of the clock.
 #[tactic(auto, unfolding(crate::specs::FirstReading::opening))]
-pub fn opening(tokens: &mut Reader<'_>) -> Result<(), FirstEnd>
+fn opening(tokens: &mut Reader<'_>) -> Result<(), FirstEnd>
     ensures { Reads (spec.opening tokens.old) result tokens.new }
 {
     tokens.key(Word::KwEquation)?;
@@ -230,7 +230,7 @@ pub fn opening(tokens: &mut Reader<'_>) -> Result<(), FirstEnd>
 
 /// What stands after the equations, up to the end of the text.
 #[tactic(auto, unfolding(crate::specs::FirstReading::closing))]
-pub fn closing(tokens: &mut Reader<'_>, title: &[u8]) -> Result<(), FirstEnd>
+fn closing(tokens: &mut Reader<'_>, title: &[u8]) -> Result<(), FirstEnd>
     ensures { Reads (spec.closing title.now tokens.old) result tokens.new }
 {
     tokens.key(Word::KwEnd)?;
@@ -240,4 +240,22 @@ pub fn closing(tokens: &mut Reader<'_>, title: &[u8]) -> Result<(), FirstEnd>
     tokens.named(title)?;
     tokens.mark(Sym::Semicolon)?;
     tokens.finish()
+}
+
+/// The numbers of the clock, and the equations of its clause, up to the end of the text.
+#[tactic(auto, unfolding(crate::specs::FirstReading::clause))]
+pub fn clause(
+    alloc: Global,
+    tokens: &mut Reader<'_>,
+    title: &[u8],
+    scope: &IndexSet<Vec<u8>>,
+) -> Result<((u32, u32), List<FirstEq>), FirstEnd>
+    ensures { Reads (spec.clause title.now (texts scope.now.keys) tokens.old) result tokens.new }
+{
+    opening(tokens)?;
+    let numbers = clock(tokens)?;
+    tokens.key(Word::KwThen)?;
+    let found = equations(alloc, tokens, scope)?;
+    closing(tokens, title)?;
+    Ok((numbers, found))
 }
