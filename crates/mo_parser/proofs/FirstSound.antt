@@ -359,31 +359,55 @@ closing_took title u a b h =
     ∙ ap (λ (ts : List Lexeme). Key KwEnd ∷ ts)
     (e2 ∙ ap (λ (ts : List Lexeme). Key KwWhen ∷ ts) (e3 ∙ ap (λ (ts : List Lexeme). Mark Semicolon ∷ ts) (e4 ∙ ap (λ (ts : List Lexeme). Key KwEnd ∷ ts) (e5 ∙ ap (λ (ts : List Lexeme). Name title ∷ ts) (e6 ∙ ap (λ (ts : List Lexeme). Mark Semicolon ∷ ts) e7)))))
 
--- a model that was read is spelled by the tokens, and its clock is in range
-pub model_spelled : (m : FirstModel) (a b : List Lexeme) → model a ≡ Took m b → Form m a × IsFirstClock m
-unfolding model clause
-model_spelled m a b h =
-    let (title, a1, h1, later1) = took _ _ _ _ h in
-    let (d, a2, h2, later2) = took _ _ _ _ later1 in
-    let (c, a8, h8, later8) = took _ _ _ _ later2 in
-    let (u, a3, h3, later3) = took _ _ _ _ h8 in
+-- what a clause that was read consists of
+record ClauseParts (title : List ℕ) (names : List (List ℕ)) (c : (ℕ × ℕ) × List FirstEq) (a : List Lexeme) : Type 0 where
+  clock_at : List Lexeme
+  body_at : List Lexeme
+  opens : a ≡ Key KwEquation ∷ Key KwWhen ∷ Name (codes "Clock") ∷ Mark RoundOpen ∷ clock_at
+  clocked : Clock c.0.0 c.0.1 clock_at (Key KwThen ∷ body_at)
+  equal : Equations names c.1 body_at (Key KwEnd ∷ Key KwWhen ∷ Mark Semicolon ∷ Key KwEnd ∷ Name title ∷ Mark Semicolon ∷ Finish ∷ [])
+  low : InClock c.0.0
+  high : InClock c.0.1
+
+clause_spelled : (title : List ℕ) (names : List (List ℕ)) (c : (ℕ × ℕ) × List FirstEq) (a b : List Lexeme) → clause title names a ≡ Took c b → ClauseParts title names c a
+unfolding clause
+clause_spelled title names c a b h =
+    let (u, a3, h3, later3) = took _ _ _ _ h in
     let (k, a4, h4, later4) = took _ _ _ _ later3 in
     let (v, a5, h5, later5) = took _ _ _ _ later4 in
     let (es, a6, h6, later6) = took _ _ _ _ later5 in
     let (w, a7, h7, later7) = took _ _ _ _ later6 in
-    let (names, starts, names_are, starts_are, declared_so) = declarations_spelled (length a1) [] [] d a1 a2 h2 in
-    let (clocked, low, high) = clock_spelled k a3 a4 h4 in
-    let (more, es_are, equal) = equations_spelled d.0 (length a5) [] es a5 a6 h6 in
-    let (clause_is, ends) = last_took (k, es) c a7 a8 later7 in
-    let (made, same) = last_took (model_of d c) m a8 b later8 in
-    let D : List (List ℕ) → List ℤ → List Lexeme → Type 0 = λ ns ss ts. Declarations ns ss a1 ts in
-    let opens : a2 ≡ Key KwEquation ∷ Key KwWhen ∷ Name (codes "Clock") ∷ Mark RoundOpen ∷ a3 = opening_took u a2 a3 h3 in
-    let thens : a4 ≡ Key KwThen ∷ a5 = key_took KwThen v a4 a5 h5 in
-    let closes = closing_took title w a6 a7 h7 in
-    let head_part = subst (λ ts. Declarations d.0 d.1 a1 ts) opens (subst (λ ss. D d.0 ss a2) (sym starts_are) (subst (λ ns. D ns starts a2) (sym names_are) declared_so)) in
-    let clock_part = subst (λ ts. Clock k.0 k.1 a3 ts) thens clocked in
-    let body_part = subst (λ ts. Equations d.0 es a5 ts) closes (subst (λ xs. Equations d.0 xs a5 a6) (sym es_are) equal) in
-    let P : FirstModel → Type 0 = λ x. Form x a × IsFirstClock x in
-    let whole_form = form title d.0 d.1 k.0 k.1 es a1 a3 a5 head_part clock_part body_part in
-    let here = subst (λ ts. Form (model_of d (k, es)) ts) (sym (heading_took title a a1 h1)) whole_form in
-    subst P (ap (model_of d) clause_is ∙ made) (here, record { counter_low = low.0; counter_high = low.1; resolution_low = high.0; resolution_high = high.1 })
+    subst (λ x. ClauseParts title names x a) (last_took (k, es) c a7 b later7).0 (parts u a3 h3 k a4 h4 v a5 h5 es a6 h6 w a7 h7)
+  where
+    parts : (u : Unit {0}) (a3 : List Lexeme) → opening a ≡ Took u a3 → (k : ℕ × ℕ) (a4 : List Lexeme) → clock a3 ≡ Took k a4 → (v : Unit {0}) (a5 : List Lexeme) → key KwThen a4 ≡ Took v a5
+        → (es : List FirstEq) (a6 : List Lexeme) → equations names (length a5) [] a5 ≡ Took es a6 → (w : Unit {0}) (a7 : List Lexeme) → closing title a6 ≡ Took w a7 → ClauseParts title names (k, es) a
+    parts u a3 h3 k a4 h4 v a5 h5 es a6 h6 w a7 h7 =
+        let (clocked, low, high) = clock_spelled k a3 a4 h4 in
+        let (more, es_are, equal) = equations_spelled names (length a5) [] es a5 a6 h6 in
+        record {
+          clock_at = a3;
+          body_at = a5;
+          opens = opening_took u a a3 h3;
+          clocked = subst (λ ts. Clock k.0 k.1 a3 ts) (key_took KwThen v a4 a5 h5) clocked;
+          equal = subst (λ ts. Equations names es a5 ts) (closing_took title w a6 a7 h7) (subst (λ xs. Equations names xs a5 a6) (sym es_are) equal);
+          low = low;
+          high = high;
+        }
+
+-- a model that was read is spelled by the tokens, and its clock is in range
+pub model_spelled : (m : FirstModel) (a b : List Lexeme) → model a ≡ Took m b → Form m a × IsFirstClock m
+unfolding model
+model_spelled m a b h =
+    let (title, a1, h1, later1) = took _ _ _ _ h in
+    let (d, a2, h2, later2) = took _ _ _ _ later1 in
+    let (c, a8, h8, later8) = took _ _ _ _ later2 in
+    subst (λ x. Form x a × IsFirstClock x) (last_took (model_of d c) m a8 b later8).0 (parts title a1 h1 d a2 h2 c (clause_spelled title d.0 c a2 a8 h8))
+  where
+    parts : (title : List ℕ) (a1 : List Lexeme) → heading a ≡ Took title a1 → (d : List (List ℕ) × List ℤ) (a2 : List Lexeme) → declarations (length a1) [] [] a1 ≡ Took d a2 → (c : (ℕ × ℕ) × List FirstEq) → ClauseParts title d.0 c a2
+        → Form (model_of d c) a × IsFirstClock (model_of d c)
+    parts title a1 h1 d a2 h2 c p =
+        let (names, starts, names_are, starts_are, declared_so) = declarations_spelled (length a1) [] [] d a1 a2 h2 in
+        let D : List (List ℕ) → List ℤ → List Lexeme → Type 0 = λ ns ss ts. Declarations ns ss a1 ts in
+        let head_part = subst (λ ts. Declarations d.0 d.1 a1 ts) p.opens (subst (λ ss. D d.0 ss a2) (sym starts_are) (subst (λ ns. D ns starts a2) (sym names_are) declared_so)) in
+        let whole_form = form title d.0 d.1 c.0.0 c.0.1 c.1 a1 p.clock_at p.body_at head_part p.clocked p.equal in
+        (subst (λ ts. Form (model_of d c) ts) (sym (heading_took title a a1 h1)) whole_form, record { counter_low = p.low.0; counter_high = p.low.1; resolution_low = p.high.0; resolution_high = p.high.1 })

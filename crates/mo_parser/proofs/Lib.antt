@@ -5,3 +5,4 @@ mod FirstComplete
 mod FirstParts
 mod FirstGaps
 mod FirstOrdering
+mod FirstTokens
