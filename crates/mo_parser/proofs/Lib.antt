@@ -6,3 +6,5 @@ mod FirstParts
 mod FirstGaps
 mod FirstOrdering
 mod FirstTokens
+mod FirstFacts
+mod FirstAnswer

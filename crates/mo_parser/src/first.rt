@@ -3,7 +3,7 @@ ghost use Rattle.std.specs.Prelude.{◌≡◌, ◌≤◌, ◌^◌, ◌↔◌, []
 ghost use Rattle.mo_parser.specs.declared.first_model.FirstModel.{FirstModel};
 ghost use Rattle.mo_parser.specs.FirstModel.{AreDistinct};
 ghost use Rattle.mo_parser.specs.FirstReading as spec;
-ghost use Rattle.mo_parser.specs.FirstText.{IsFirstText};
+ghost use Rattle.mo_parser.specs.FirstText.{AtMostOneModel, IsFirstText};
 
 use crate::first_form::{clause, declarations, heading};
 use crate::first_names::number_names;
@@ -70,3 +70,8 @@ pub fn parse_first(alloc: Global, text: &[u8]) -> Result<FirstModel, FirstEnd>
     }
     Ok(model)
 }
+
+/// A text has at most one model of the first form.
+pub fn first_text_is_one()
+    ensures { AtMostOneModel }
+{}

@@ -9,5 +9,5 @@ mod first_order;
 mod first_plain;
 mod first_reader;
 
-pub use first::parse_first;
+pub use first::{first_text_is_one, parse_first};
 pub use first_model::{FirstEnd, FirstEq, FirstModel, FirstTerm};
