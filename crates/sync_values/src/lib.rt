@@ -3,10 +3,12 @@
 
 mod arithmetic;
 mod list;
+mod relation;
 mod text;
 mod value;
 
-pub use arithmetic::add;
+pub use arithmetic::{abs, add, div, greatest, least, modulo, mul, neg, rem, sub};
 pub use list::List;
+pub use relation::relate;
 pub use text::Text;
 pub use value::{ChainOp, Fail, Rel, Value};
