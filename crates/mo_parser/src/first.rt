@@ -75,3 +75,6 @@ pub fn parse_first(alloc: Global, text: &[u8]) -> Result<FirstModel, FirstEnd>
 pub fn first_text_is_one()
     ensures { AtMostOneModel }
 {}
+
+#[cfg(test)]
+mod tests;
