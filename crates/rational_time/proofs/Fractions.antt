@@ -1,5 +1,5 @@
 -- Fractions in lowest terms: how they come from any fraction, and that there is only one.
-use Rattle.std.proofs.Common.{◌≡◌, subst, ap, ℕ, zero, suc, ◌*◌, ◌/◌, ◌<◌, ◌≤◌, arith, inl, inr, ⊎_elim}
+use Rattle.std.proofs.Common.{◌≡◌, subst, ap, ℕ, zero, suc, ◌*◌, ◌/◌, ◌<◌, arith, ⊎_elim}
 use Rattle.std.specs.Int.{IsGcd, ◌∣◌}
 use Rattle.std.proofs.Math.Nat.{one-dvd, dvd_of_mul-dvd-mul_right, mul-dvd-mul_right, div-mul_cancel, pos_of_dvd_of_pos, eq_of_mul-eq-mul_right, ∣_prop}
 use Rattle.std.proofs.lemmas.Nat.Gcd.{IsGcd-swap, dvd_antisymm}
@@ -78,7 +78,3 @@ IsGcd-ratio r = ∥∥₁_elim r.lowest (IsGcd-prop r.num r.den 1) (λ h. h)
 -- a ratio of the value n/d is n/d in lowest terms
 pub IsLowest-ratio : (r : Ratio) (n d : ℕ) → IsFraction r n d → IsLowest r.num r.den n d
 IsLowest-ratio r n d e = record { positive = r.positive; same = e; lowest = IsGcd-ratio r }
-
--- what exceeds limits exceeds lower ones
-pub exceeds_lower : (a b x y n d : ℕ) → x ≤ a → y ≤ b → Exceeds a b n d → Exceeds x y n d
-exceeds_lower a b x y n d p q (r, s, l, over) = (r, s, l, ⊎_elim (λ h. inl (omega arith)) (λ h. inr (omega arith)) over)

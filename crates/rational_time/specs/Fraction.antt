@@ -35,7 +35,8 @@ pub record IsLowest (num den n d : ℕ) : Type 0 where
 
 -- n/d in lowest terms has a numerator or a denominator that reaches its limit
 abbrev pub Exceeds : ℕ → ℕ → ℕ → ℕ → Type 0
-Exceeds num_limit den_limit n d = (num : ℕ) × (den : ℕ) × IsLowest num den n d × ((num_limit ≤ num) ⊎ (den_limit ≤ den))
+Exceeds num_limit den_limit n d =
+    (num : ℕ) × (den : ℕ) × IsLowest num den n d × ((num_limit ≤ num) ⊎ (den_limit ≤ den))
 
 -- n/d in lowest terms has a part that does not fit 64 bits
 abbrev pub DoesNotFit : ℕ → ℕ → Type 0
@@ -47,15 +48,18 @@ IsFloor n d floor = (floor * d ≤ n) × (n < (floor + 1) * d)
 
 -- the instant t is tick k, start + k*period
 abbrev pub IsTick : Ratio → Ratio → ℕ → Ratio → Type 0
-IsTick period start k t = t.num * (start.den * period.den) ≡ (start.num * period.den + k * period.num * start.den) * t.den
+IsTick period start k t =
+    t.num * (start.den * period.den) ≡ (start.num * period.den + k * period.num * start.den) * t.den
 
 -- tick k, start + k*period, is not above stop
 abbrev pub IsTickWithin : Ratio → Ratio → ℕ → Ratio → Type 0
-IsTickWithin period start k stop = (start.num * period.den + k * period.num * start.den) * stop.den ≤ stop.num * (start.den * period.den)
+IsTickWithin period start k stop =
+    (start.num * period.den + k * period.num * start.den) * stop.den ≤ stop.num * (start.den * period.den)
 
 -- tick i of the clock p, s is at the instant of tick j of the clock q, r: s + i*p = r + j*q
 abbrev pub IsSameTick : Ratio → Ratio → ℕ → Ratio → Ratio → ℕ → Type 0
-IsSameTick p s i q r j = (s.num * p.den + i * p.num * s.den) * (r.den * q.den) ≡ (r.num * q.den + j * q.num * r.den) * (s.den * p.den)
+IsSameTick p s i q r j =
+    (s.num * p.den + i * p.num * s.den) * (r.den * q.den) ≡ (r.num * q.den + j * q.num * r.den) * (s.den * p.den)
 
 -- the printed form of an instant: n where the denominator is 1, else n/d
 abbrev pub instant_text : Ratio → List ℕ

@@ -8,4 +8,5 @@ signed negative size = if negative then neg_ℤ (pos size) else pos size
 
 -- the numerator of start + period*k/r, or of start - period*k/r, over start.den * (period.den * r)
 abbrev pub moved_num : Ratio → Bool → Ratio → ℕ → ℕ → Bool → ℤ
-moved_num start negative period k r back = signed negative (start.num * (period.den * r)) +ℤ signed back (period.num * k * start.den)
+moved_num start negative period k r back =
+    signed negative (start.num * (period.den * r)) +ℤ signed back (period.num * k * start.den)

@@ -20,9 +20,13 @@ pub fn moved(
     requires divisor { 0 < r }
     requires start { ArePartsBelow (2 ^ 40) start }
     requires period { ArePartsBelow (2 ^ 40) period }
-    ensures size { IfSome result (λ m. IsFraction m.start (unsigned_abs (moved_num start negative period k r back)) (start.den * (period.den * r))) }
+    ensures size { IfSome result (λ m. IsFraction m.start
+        (unsigned_abs (moved_num start negative period k r back))
+        (start.den * (period.den * r))) }
     ensures sign { IfSome result (λ m. IsTrue m.negative ↔ (moved_num start negative period k r back <ℤ pos 0)) }
-    ensures none { IsNone result ↔ DoesNotFit (unsigned_abs (moved_num start negative period k r back)) (start.den * (period.den * r)) }
+    ensures none { IsNone result ↔ DoesNotFit
+        (unsigned_abs (moved_num start negative period k r back))
+        (start.den * (period.den * r)) }
 {
     let sum = moved_sum(start, negative, period, k, r, back);
     let grain = u128::from(period.den) * u128::from(r);

@@ -25,7 +25,8 @@ pub enum RatioFault {
 pub fn read(text: &[u8]) -> Result<Ratio, RatioFault>
     ensures value { IfOk result (λ r. (n : ℕ) × (d : ℕ) × WritesTime text.now n d × IsFraction r n d) }
     ensures malformed { (result ≡ Err RatioFault.Malformed) ↔ ((n d : ℕ) → ¬ (WritesTime text.now n d)) }
-    ensures too_fine { (result ≡ Err RatioFault.TooFine) ↔ ((n : ℕ) × (d : ℕ) × WritesTime text.now n d × Exceeds (2 ^ 60) (2 ^ 32) n d) }
+    ensures too_fine { (result ≡ Err RatioFault.TooFine) ↔
+        ((n : ℕ) × (d : ℕ) × WritesTime text.now n d × Exceeds (2 ^ 60) (2 ^ 32) n d) }
 {
     let Some((num, den)) = written(text) else {
         return Err(RatioFault::Malformed);
@@ -49,7 +50,9 @@ fn fine(num: u128, den: u128) -> Option<Ratio>
 
 /// The numerator and the denominator that a time text writes, not reduced.
 fn written(text: &[u8]) -> Option<(u128, u128)>
-    ensures { MatchOption result ((n d : ℕ) → ¬ (WritesTime text.now n d)) (λ r. WritesTime text.now r.0 r.1) }
+    ensures { MatchOption result
+        ((n d : ℕ) → ¬ (WritesTime text.now n d))
+        (λ r. WritesTime text.now r.0 r.1) }
 {
     let (first, rest) = split_digits(text);
     let whole = number(first, 18)?;
@@ -80,7 +83,9 @@ fn split_digits(text: &[u8]) -> (&[u8], &[u8])
 /// The number that 1 to `most` decimal digits write.
 fn number(digits: &[u8], most: usize) -> Option<u64>
     requires { most ≤ 18 }
-    ensures { MatchOption result (¬ (IsNumeral most digits.now)) (λ n. IsNumeral most digits.now × (n ≡ digits_value 10 digits.now)) }
+    ensures { MatchOption result
+        (¬ (IsNumeral most digits.now))
+        (λ n. IsNumeral most digits.now × (n ≡ digits_value 10 digits.now)) }
 {
     if digits.is_empty() || digits.len() > most {
         return None;
@@ -97,7 +102,10 @@ fn number(digits: &[u8], most: usize) -> Option<u64>
 
 /// The fraction `whole/under`, where the text after the slash is the numeral of a number above 0.
 fn quotient(whole: u64, under: &[u8]) -> Option<(u128, u128)>
-    ensures { MatchOption result (IsNumeral 18 under.now → digits_value 10 under.now ≡ 0) (λ r. IsNumeral 18 under.now × (0 < r.1) × (r.0 ≡ whole) × (r.1 ≡ digits_value 10 under.now)) }
+    ensures { MatchOption result
+        (IsNumeral 18 under.now → digits_value 10 under.now ≡ 0)
+        (λ r. IsNumeral 18 under.now × (0 < r.1)
+        × (r.0 ≡ whole) × (r.1 ≡ digits_value 10 under.now)) }
 {
     let under = number(under, 18)?;
     if under == 0 {
@@ -108,7 +116,11 @@ fn quotient(whole: u64, under: &[u8]) -> Option<(u128, u128)>
 
 /// The fraction `whole + f/10^k`, where the text after the point is the k digits of f.
 fn decimal(whole: u64, part: &[u8]) -> Option<(u128, u128)>
-    ensures { MatchOption result (¬ (IsNumeral 9 part.now)) (λ r. IsNumeral 9 part.now × (r.0 ≡ whole * 10 ^ length part.now + digits_value 10 part.now) × (r.1 ≡ 10 ^ length part.now)) }
+    ensures { MatchOption result
+        (¬ (IsNumeral 9 part.now))
+        (λ r. IsNumeral 9 part.now
+        × (r.0 ≡ whole * 10 ^ length part.now + digits_value 10 part.now)
+        × (r.1 ≡ 10 ^ length part.now)) }
 {
     let digits = number(part, 9)?;
     let scale = 10u64.pow(part.len() as u32);
