@@ -146,7 +146,7 @@ fn slash(text: &[u8]) -> (Piece, usize)
     requires slash { slice_index text.now 0 ≡ 47 }
     ensures { Begins result.0 result.1 text.now }
 {
-    // A text that ends here has no second byte, and a 0 begins nothing.
+    // 0, which stands in no comment's beginning, where the text ends here.
     let second = text.get(1).copied().unwrap_or(0);
     if second == b'/' {
         return (Piece::Comment, 2 + line_len(rest_from(text, 2)));
