@@ -9,3 +9,4 @@ pub mod Steps
 pub mod FirstBytes
 pub mod Apart
 pub mod Laws
+pub mod Exists

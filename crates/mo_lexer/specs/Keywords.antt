@@ -1,4 +1,4 @@
--- The keywords.
+-- The keywords (MLS 3.6, chapter 2, "Identifiers, Names, and Keywords").
 use Rattle.std.specs.Prelude.{ℕ, List, [], ◌∷◌, Option, Some, None, bytes_eq, codes, map, ◌==◌, length, if◌then◌else◌}
 use Rattle.std.specs.Borrow.{Bor}
 use Rattle.mo_lexer.specs.declared.token.Word.{Word}

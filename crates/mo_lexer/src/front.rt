@@ -1,5 +1,5 @@
 //! The longest piece at the front of some bytes.
-ghost use Rattle.std.specs.Prelude.{◌≡◌, ◌<◌, ◌≤◌, ◌^◌, length, drop, take_while, slice_index, IsTrue, [], ◌∷◌};
+ghost use Rattle.std.specs.Prelude.{◌≡◌, ◌<◌, ◌≤◌, length, drop, take_while, slice_index, IsTrue, [], ◌∷◌};
 ghost use Rattle.mo_lexer.specs.Bytes.{is_separator, is_digit, is_word_byte, is_in_line};
 ghost use Rattle.mo_lexer.specs.Tokens.{Begins};
 ghost use Rattle.mo_lexer.specs.Front.{BeginsWith, is_other, has_point, sign_len, HasExponent, EndsText, EndsComment, IsSymbolOf};
@@ -8,24 +8,28 @@ use crate::byte::{digit, exponent_letter, in_line, letter, separator, word_byte}
 use crate::piece::Piece;
 use crate::token::Sym;
 
+// How many bytes at the front are separators.
 fn separators_len(text: &[u8]) -> usize
     ensures { result ≡ length (take_while is_separator text.now) }
 {
     text.iter().take_while(|byte| separator(**byte)).count()
 }
 
+// How many bytes at the front are letters, digits or `_`.
 fn word_len(text: &[u8]) -> usize
     ensures { result ≡ length (take_while is_word_byte text.now) }
 {
     text.iter().take_while(|byte| word_byte(**byte)).count()
 }
 
+// How many bytes at the front are digits.
 fn digits_len(text: &[u8]) -> usize
     ensures { result ≡ length (take_while is_digit text.now) }
 {
     text.iter().take_while(|byte| digit(**byte)).count()
 }
 
+// How many bytes at the front are in the line.
 fn line_len(text: &[u8]) -> usize
     ensures { result ≡ length (take_while is_in_line text.now) }
 {
@@ -146,7 +150,7 @@ fn slash(text: &[u8]) -> (Piece, usize)
     requires slash { slice_index text.now 0 ≡ 47 }
     ensures { Begins result.0 result.1 text.now }
 {
-    // A text that ends here has no second byte, and a 0 begins nothing.
+    // 0, which stands in no comment's beginning, where the text ends here.
     let second = text.get(1).copied().unwrap_or(0);
     if second == b'/' {
         return (Piece::Comment, 2 + line_len(rest_from(text, 2)));

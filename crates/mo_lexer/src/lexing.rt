@@ -1,4 +1,4 @@
-ghost use Rattle.std.specs.Prelude.{◌≡◌, ◌≤◌, ◌<◌, ◌^◌, ◌++◌, length, pos, IsTrue, OnOk, SomeIff};
+ghost use Rattle.std.specs.Prelude.{◌≡◌, ◌≤◌, ◌<◌, ◌^◌, ◌++◌, length, IsTrue, OnOk, SomeIff};
 ghost use Rattle.std.specs.List.{list_all};
 ghost use Rattle.mo_lexer.specs.Bytes.{is_digit};
 ghost use Rattle.mo_lexer.specs.Spelling.{Spells};

@@ -40,7 +40,7 @@ pub fn abs(a: i64) -> Result<i64, Fail>
 
 /// The quotient rounded towards 0. `Divide` comes exactly where b is 0, and `TooLarge` exactly for -2^63 over -1.
 ///
-/// Source: MLS 3.6, chapter 3, "Numeric Functions and Conversion Functions".
+/// Source: MLS 3.6, chapter 3, "Event Triggering Mathematical Functions".
 pub fn div(a: i64, b: i64) -> Result<i64, Fail>
     ensures { result ≡ over b (exact_div a b) }
 {
@@ -52,7 +52,7 @@ pub fn div(a: i64, b: i64) -> Result<i64, Fail>
 
 /// What `div` leaves, `a - div(a, b)*b`, taken exactly. `Divide` comes exactly where b is 0.
 ///
-/// Source: MLS 3.6, chapter 3, "Numeric Functions and Conversion Functions".
+/// Source: MLS 3.6, chapter 3, "Event Triggering Mathematical Functions".
 pub fn rem(a: i64, b: i64) -> Result<i64, Fail>
     ensures { result ≡ over b (exact_rem a b) }
 {
@@ -71,7 +71,7 @@ fn are_unlike(a: i64, b: i64) -> bool
 
 /// The modulus `a - floor(a/b)*b`, which has the sign of b. `Divide` comes exactly where b is 0.
 ///
-/// Source: MLS 3.6, chapter 3, "Numeric Functions and Conversion Functions".
+/// Source: MLS 3.6, chapter 3, "Event Triggering Mathematical Functions".
 pub fn modulo(a: i64, b: i64) -> Result<i64, Fail>
     ensures { result ≡ over b (exact_modulo a b) }
 {

@@ -15,6 +15,8 @@ fn rank_of(value: Value) -> i64
 }
 
 /// Whether a relation holds between two Integers or two Booleans, with false below true.
+///
+/// Source: MLS 3.6, chapter 3, "Equality, Relational, and Logical Operators".
 pub fn relate(rel: Rel, a: Value, b: Value) -> bool
     requires { AreAlike a b }
     ensures { result ≡ related rel a b }
