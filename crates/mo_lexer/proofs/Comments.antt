@@ -8,12 +8,12 @@ use Rattle.mo_lexer.specs.declared.piece.Piece.{Piece}
 use Rattle.mo_lexer.specs.declared.piece.Piece.TheVariants as piece
 use Rattle.mo_lexer.specs.declared.token.Sym.{Sym}
 use Rattle.mo_lexer.specs.declared.token.Sym.TheVariants as sym_of
-use Rattle.mo_lexer.specs.Bytes.{is_separator, is_letter, is_digit, is_in_line}
-use Rattle.mo_lexer.specs.Spelling.{Spells, IsUnended, IsLineComment, IsBlockComment, IsOpenComment, symbol_bytes}
+use Rattle.mo_lexer.specs.Bytes.{is_in_line}
+use Rattle.mo_lexer.specs.Spelling.{Spells, IsUnended, IsLineComment, IsBlockComment, IsOpenComment, IsOpenText, symbol_bytes}
 use Rattle.mo_lexer.specs.Tokens.{Begins}
 use Rattle.mo_lexer.specs.Front.{HasEnd, EndsComment}
-use Rattle.mo_lexer.proofs.Pieces.{begins, starts, most, all_pass, run_split}
-use Rattle.mo_lexer.proofs.Runs.{is_no}
+use Rattle.mo_lexer.proofs.Pieces.{begins, most, all_pass, run_split}
+use Rattle.mo_lexer.proofs.FirstBytes.{slash_only, spelled_as}
 
 -- ---- the first `*/`
 
@@ -61,21 +61,19 @@ pub data Slashed (bytes : List ℕ) : Type 0 where
   unended : IsOpenComment bytes → Slashed bytes
   over : length bytes ≤ 1 → Slashed bytes
 
-slash_symbol : (c : ℕ) (q : List ℕ) (s : Sym) → c ≡ 47 → c ∷ q ≡ symbol_bytes s → length (c ∷ q) ≤ 1
+pub slash_symbol : (c : ℕ) (q : List ℕ) (s : Sym) → c ≡ 47 → c ∷ q ≡ symbol_bytes s → length (c ∷ q) ≤ 1
 slash_symbol c [] s e h = omega arith
 slash_symbol c (d ∷ q) s e h = let short : not (c == 47) ≡ true = ap is_short h ∙ slashes s in let same : c == 47 ≡ true = grind (arith, nat_tests) in cc (ap not same)
 
+pub not_quote : (c : ℕ) (q : List ℕ) → c ≡ 47 → IsOpenText (c ∷ q) → ⊥
+not_quote c q e x = let quote : c ≡ 34 = ap (λ z. slice_index z 0) x.whole in omega (arith, quote, e)
+
 slash_other : (other : Piece) (c : ℕ) (q : List ℕ) → c ≡ 47 → Spells other (c ∷ q) → Slashed (c ∷ q)
-slash_other piece.Separator c q e h = absurd (is_no is_separator c 47 (starts piece.Separator c q h) e refl)
-slash_other piece.Comment c q e (inl h) = line h
-slash_other piece.Comment c q e (inr h) = block h
-slash_other piece.Unended c q e (inl h) = unended h
-slash_other piece.Unended c q e (inr h) = let quote : c ≡ 34 = cc (h.whole) in absurd (omega (arith, quote, e))
-slash_other piece.Word c q e h = absurd (is_no is_letter c 47 (starts piece.Word c q h) e refl)
-slash_other piece.Integer c q e h = absurd (is_no is_digit c 47 (starts piece.Integer c q h) e refl)
-slash_other piece.Real c q e h = absurd (is_no is_digit c 47 (starts piece.Real c q h) e refl)
-slash_other piece.Text c q e h = let quote : c ≡ 34 = cc (h.whole) in absurd (omega (arith, quote, e))
-slash_other (piece.Symbol s) c q e h = over (slash_symbol c q s e h)
+slash_other other c q e h = elim (slash_only other c q e h) [
+  | inl same ↦ elim (spelled_as (c ∷ q) same h) [ inl x ↦ line x | inr x ↦ block x ]
+  | inr (inl same) ↦ elim (spelled_as (c ∷ q) same h) [ inl x ↦ unended x | inr x ↦ absurd (not_quote c q e x) ]
+  | inr (inr (s, same)) ↦ over (slash_symbol c q s e (spelled_as (c ∷ q) same h))
+]
 
 at_slash : (b : ℕ) (t : List ℕ) (bound : ℕ) → b ≡ 47 → ((q s : List ℕ) → b ∷ t ≡ q ++ s → Slashed q → length q ≤ bound) → (other : Piece) (q s : List ℕ) → b ∷ t ≡ q ++ s → Spells other q → length q ≤ bound
 at_slash b t bound first sizes other [] s e h = omega arith
@@ -89,7 +87,7 @@ two_first (x ∷ y ∷ t) a b some first second more = cc
 -- ---- comments
 
 -- the second bytes of a line comment and of another comment differ
-line_or_block : (u v : List ℕ) → 47 ∷ 47 ∷ u ≡ 47 ∷ 42 ∷ v → ⊥
+pub line_or_block : (u v : List ℕ) → 47 ∷ 47 ∷ u ≡ 47 ∷ 42 ∷ v → ⊥
 line_or_block u v e = let same : 47 ≡ 42 = ap (λ z. slice_index z 1) e in omega (arith, same)
 
 slash_some : 0 < 47

@@ -6,3 +6,7 @@ pub mod Quotes
 pub mod Comments
 pub mod Symbols
 pub mod Steps
+pub mod FirstBytes
+pub mod Apart
+pub mod Laws
+pub mod Exists

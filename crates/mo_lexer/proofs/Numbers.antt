@@ -12,8 +12,8 @@ use Rattle.mo_lexer.specs.Bytes.{is_digit, is_exponent_letter}
 use Rattle.mo_lexer.specs.Spelling.{Spells, IsRun, IsSign, IsExponent, IsPointed, IsScaled}
 use Rattle.mo_lexer.specs.Tokens.{Begins}
 use Rattle.mo_lexer.specs.Front.{has_point, sign_len, HasExponent}
-use Rattle.mo_lexer.proofs.Pieces.{both, begins, starts, most, all_pass, first_run, run_split}
-use Rattle.mo_lexer.proofs.Runs.{mark_digit, separator_digit, letter_digit, is_no}
+use Rattle.mo_lexer.proofs.Pieces.{both, begins, most, all_pass, first_run, run_split}
+use Rattle.mo_lexer.proofs.FirstBytes.{digit_only, spelled_as}
 
 -- how many digits stand at the front
 abbrev pub digits : List ℕ → ℕ
@@ -76,7 +76,7 @@ exponent_sizes b t q s e x = go x.letter x.sign x.digits x.letter_right x.sign_r
         let some = run_some is_digit ds run in
         (omega (arith, size, length-append letter (sign ++ ds), length-append sign ds, ap length c.1, found.0, least), omega (arith, some, least))
 
-letter_first : (b : ℕ) (q : List ℕ) → IsExponent (b ∷ q) → is_exponent_letter b ≡ true
+pub letter_first : (b : ℕ) (q : List ℕ) → IsExponent (b ∷ q) → is_exponent_letter b ≡ true
 letter_first b q x = go x.letter_right
   where
     go : (x.letter ≡ codes "e") ⊎ (x.letter ≡ codes "E") → is_exponent_letter b ≡ true
@@ -150,7 +150,7 @@ exponent (b ∷ t) some letter more =
 
 -- ---- numbers
 
-no_letters : IsExponent [] → ⊥
+pub no_letters : IsExponent [] → ⊥
 no_letters x = let one = one_byte x.letter x.letter_right in let none : [] ≡ one.0 ∷ (x.sign ++ x.digits) = x.whole ∙ ap (λ z. z ++ (x.sign ++ x.digits)) one.1 in cc
 
 exponent_stops : (exponent s : List ℕ) → IsExponent exponent → Stops (exponent ++ s)
@@ -158,14 +158,7 @@ exponent_stops [] s x = absurd (no_letters x)
 exponent_stops (b ∷ q) s x = let here = letter_first b q x in grind (arith, nat_tests)
 
 digit_other : (other : Piece) (c : ℕ) (q : List ℕ) → is_digit c ≡ true → Spells other (c ∷ q) → IsRun is_digit (c ∷ q) ⊎ (IsPointed (c ∷ q) ⊎ IsScaled (c ∷ q))
-digit_other piece.Separator c q digit h = absurd (separator_digit c (starts piece.Separator c q h) digit)
-digit_other piece.Comment c q digit h = absurd (is_no is_digit c 47 digit (starts piece.Comment c q h) refl)
-digit_other piece.Unended c q digit h = elim (starts piece.Unended c q h) [ inl e ↦ absurd (is_no is_digit c 47 digit e refl) | inr e ↦ absurd (is_no is_digit c 34 digit e refl) ]
-digit_other piece.Word c q digit h = absurd (letter_digit c (starts piece.Word c q h) digit)
-digit_other piece.Integer c q digit h = inl h
-digit_other piece.Real c q digit h = inr h
-digit_other piece.Text c q digit h = absurd (is_no is_digit c 34 digit (starts piece.Text c q h) refl)
-digit_other (piece.Symbol s) c q digit h = absurd (mark_digit c (starts (piece.Symbol s) c q h) digit)
+digit_other other c q digit h = elim (digit_only other c q digit h) [ inl e ↦ inl (spelled_as (c ∷ q) e h) | inr e ↦ inr (spelled_as (c ∷ q) e h) ]
 
 -- the numbers that stand at the front are bounded where their parts are
 module _ (t : List ℕ) (some : 0 < length t) (first : is_digit (slice_index t 0) ≡ true) (bound : ℕ) (whole : digits t ≤ bound)

@@ -5,12 +5,11 @@ use Rattle.std.proofs.Math.Seq.{take-length, drop-cons}
 use Rattle.std.proofs.lemmas.Bool.Decides.{nat_tests}
 use Rattle.mo_lexer.specs.declared.piece.Piece.{Piece}
 use Rattle.mo_lexer.specs.declared.piece.Piece.TheVariants as piece
-use Rattle.mo_lexer.specs.Bytes.{is_separator, is_letter, is_digit}
-use Rattle.mo_lexer.specs.Spelling.{Spells, is_quoted, IsText, IsOpenText}
+use Rattle.mo_lexer.specs.Spelling.{Spells, is_quoted, IsText, IsOpenComment, IsOpenText}
 use Rattle.mo_lexer.specs.Tokens.{Begins}
 use Rattle.mo_lexer.specs.Front.{EndsText}
-use Rattle.mo_lexer.proofs.Pieces.{both, both_true, begins, starts, is_mark}
-use Rattle.mo_lexer.proofs.Runs.{is_no}
+use Rattle.mo_lexer.proofs.Pieces.{both, both_true, begins}
+use Rattle.mo_lexer.proofs.FirstBytes.{quote_only, spelled_as}
 
 is_not : {x : Bool} → not x ≡ true → x ≡ false
 is_not {x = true} h = cc
@@ -73,7 +72,7 @@ no_quote b (c ∷ q) h same = go (b == 92) refl h
     go false is rest = let first = is_not (both (not (b == 34)) (is_quoted (c ∷ q)) rest).0 in grind (arith, nat_tests)
 
 -- no quoted bytes go past the first free quote
-quoted_first : (i j s u : List ℕ) → is_quoted i ≡ true → is_quoted j ≡ true → i ++ 34 ∷ s ≡ j ++ u → length j ≤ length i
+pub quoted_first : (i j s u : List ℕ) → is_quoted i ≡ true → is_quoted j ≡ true → i ++ 34 ∷ s ≡ j ++ u → length j ≤ length i
 quoted_first i [] s u h k e = omega arith
 quoted_first [] (c ∷ j) s u h k e = let same : c ≡ 34 = cc in absurd (no_quote c j k same)
 quoted_first (b ∷ i) (c ∷ []) s u h k e = omega arith
@@ -99,16 +98,14 @@ quoted_first (b ∷ a ∷ i) (c ∷ d ∷ j) s u h k e = go (b == 92) h (subst (
     go true x y less more = let least = less x y in omega (arith, least)
     go false x y less more = let least = more (both (not (b == 34)) _ x).1 (both (not (b == 34)) _ y).1 in omega (arith, least)
 
+pub not_slash : (c : ℕ) (q : List ℕ) → c ≡ 34 → IsOpenComment (c ∷ q) → ⊥
+not_slash c q e x = let slash : c ≡ 47 = ap (λ z. slice_index z 0) x.whole in omega (arith, slash, e)
+
 quote_other : (other : Piece) (c : ℕ) (q : List ℕ) → c ≡ 34 → Spells other (c ∷ q) → IsText (c ∷ q) ⊎ IsOpenText (c ∷ q)
-quote_other piece.Separator c q e h = absurd (is_no is_separator c 34 (starts piece.Separator c q h) e refl)
-quote_other piece.Comment c q e h = let slash = starts piece.Comment c q h in absurd (omega (arith, slash, e))
-quote_other piece.Unended c q e (inl h) = let slash : c ≡ 47 = cc (h.whole) in absurd (omega (arith, slash, e))
-quote_other piece.Unended c q e (inr h) = inr h
-quote_other piece.Word c q e h = absurd (is_no is_letter c 34 (starts piece.Word c q h) e refl)
-quote_other piece.Integer c q e h = absurd (is_no is_digit c 34 (starts piece.Integer c q h) e refl)
-quote_other piece.Real c q e h = absurd (is_no is_digit c 34 (starts piece.Real c q h) e refl)
-quote_other piece.Text c q e h = inl h
-quote_other (piece.Symbol s) c q e h = absurd (is_no is_mark c 34 (starts (piece.Symbol s) c q h) e refl)
+quote_other other c q e h = elim (quote_only other c q e h) [
+  | inl same ↦ inl (spelled_as (c ∷ q) same h)
+  | inr same ↦ elim (spelled_as (c ∷ q) same h) [ inl x ↦ absurd (not_slash c q e x) | inr x ↦ inr x ]
+]
 
 pub quoted_text : (t : List ℕ) (at : ℕ) → 0 < length t → slice_index t 0 ≡ 34 → EndsText (drop 1 t) (Some at) → Begins piece.Text (at + 2) t
 quoted_text [] at some first ends = absurd (omega arith)

@@ -1,62 +1,19 @@
 -- Words and separators: the run of their bytes is the longest piece.
-use Rattle.std.proofs.Common.{◌≡◌, ◌≢◌, ◌++◌, inl, inr, ◌∙◌, ℕ, Bool, true, false, not, List, [], ◌∷◌, length, ◌<◌, slice_index, refl, ap, sym, subst, arith}
+use Rattle.std.proofs.Common.{◌≡◌, ◌≢◌, ◌++◌, ◌∙◌, ℕ, Bool, true, List, [], ◌∷◌, length, ◌<◌, slice_index, refl, ap, sym, subst, arith}
 use Rattle.std.specs.List.{list_all, take_while}
-use Rattle.std.proofs.lemmas.Bool.Decides.{nat_tests}
 use Rattle.mo_lexer.specs.declared.piece.Piece.{Piece}
 use Rattle.mo_lexer.specs.declared.piece.Piece.TheVariants as piece
-use Rattle.mo_lexer.specs.Bytes.{is_separator, is_letter, is_digit, is_word_byte}
+use Rattle.mo_lexer.specs.Bytes.{is_separator, is_letter, is_word_byte}
 use Rattle.mo_lexer.specs.Spelling.{Spells}
 use Rattle.mo_lexer.specs.Tokens.{Begins}
-use Rattle.mo_lexer.proofs.Pieces.{both, both_true, begins, is_mark, starts, most, all_pass, first_run, run_split}
-
--- ---- what a byte cannot be besides
-
-pub not_both : {x : Bool} → x ≡ true → not x ≡ true → ⊥
-not_both h k = cc
-
-pub mark_separates : (b : ℕ) → is_mark b ≡ true → is_separator b ≡ true → ⊥
-mark_separates b m h = let rest = both (not (is_letter b)) _ m in not_both h (both (not (is_separator b)) _ rest.1).0
-
-pub mark_letter : (b : ℕ) → is_mark b ≡ true → is_letter b ≡ true → ⊥
-mark_letter b m h = not_both h (both (not (is_letter b)) _ m).0
-
-pub mark_digit : (b : ℕ) → is_mark b ≡ true → is_digit b ≡ true → ⊥
-mark_digit b m h = let rest = both (not (is_letter b)) _ m in let more = both (not (is_separator b)) _ rest.1 in not_both h (both (not (is_digit b)) _ more.1).0
-
-pub separator_letter : (b : ℕ) → is_separator b ≡ true → is_letter b ≡ true → ⊥
-separator_letter b h k = grind (arith, nat_tests)
-
-pub separator_digit : (b : ℕ) → is_separator b ≡ true → is_digit b ≡ true → ⊥
-separator_digit b h k = grind (arith, nat_tests)
-
-pub letter_digit : (b : ℕ) → is_letter b ≡ true → is_digit b ≡ true → ⊥
-letter_digit b h k = grind (arith, nat_tests)
-
--- a byte with this value fails the test
-pub is_no : (p : ℕ → Bool) (b c : ℕ) → p b ≡ true → b ≡ c → p c ≡ false → ⊥
-is_no p b c h same fails = let here = ap p (sym same) ∙ h in cc
-
--- ---- runs
+use Rattle.mo_lexer.proofs.FirstBytes.{separator_only, word_only, spelled_as}
+use Rattle.mo_lexer.proofs.Pieces.{both_true, begins, most, all_pass, first_run, run_split}
 
 separator_alone : (other : Piece) (b : ℕ) (q : List ℕ) → is_separator b ≡ true → Spells other (b ∷ q) → list_all is_separator (b ∷ q) ≡ true
-separator_alone piece.Separator b q first h = h.1
-separator_alone piece.Comment b q first h = absurd (is_no is_separator b 47 first (starts piece.Comment b q h) refl)
-separator_alone piece.Unended b q first h = elim (starts piece.Unended b q h) [ inl e ↦ absurd (is_no is_separator b 47 first e refl) | inr e ↦ absurd (is_no is_separator b 34 first e refl) ]
-separator_alone piece.Word b q first h = absurd (separator_letter b first (starts piece.Word b q h))
-separator_alone piece.Integer b q first h = absurd (separator_digit b first (starts piece.Integer b q h))
-separator_alone piece.Real b q first h = absurd (separator_digit b first (starts piece.Real b q h))
-separator_alone piece.Text b q first h = absurd (is_no is_separator b 34 first (starts piece.Text b q h) refl)
-separator_alone (piece.Symbol s) b q first h = absurd (mark_separates b (starts (piece.Symbol s) b q h) first)
+separator_alone other b q first h = (spelled_as (b ∷ q) (separator_only other b q first h) h).1
 
 word_alone : (other : Piece) (b : ℕ) (q : List ℕ) → is_letter b ≡ true → Spells other (b ∷ q) → list_all is_word_byte (b ∷ q) ≡ true
-word_alone piece.Separator b q first h = absurd (separator_letter b (starts piece.Separator b q h) first)
-word_alone piece.Comment b q first h = absurd (is_no is_letter b 47 first (starts piece.Comment b q h) refl)
-word_alone piece.Unended b q first h = elim (starts piece.Unended b q h) [ inl e ↦ absurd (is_no is_letter b 47 first e refl) | inr e ↦ absurd (is_no is_letter b 34 first e refl) ]
-word_alone piece.Word b q first h = both_true (rw first refl) h.1
-word_alone piece.Integer b q first h = absurd (letter_digit b first (starts piece.Integer b q h))
-word_alone piece.Real b q first h = absurd (letter_digit b first (starts piece.Real b q h))
-word_alone piece.Text b q first h = absurd (is_no is_letter b 34 first (starts piece.Text b q h) refl)
-word_alone (piece.Symbol s) b q first h = absurd (mark_letter b (starts (piece.Symbol s) b q h) first)
+word_alone other b q first h = both_true (rw first refl) (spelled_as (b ∷ q) (word_only other b q first h) h).1
 
 -- a piece at the front of a text begins with the text's first byte
 at_front : (p first : ℕ → Bool) (b : ℕ) (t : List ℕ) → first b ≡ true → ((other : Piece) (c : ℕ) (q : List ℕ) → first c ≡ true → Spells other (c ∷ q) → list_all p (c ∷ q) ≡ true)

@@ -1,17 +1,16 @@
 -- Symbols: the longest one that stands where nothing else can begin, or none.
-use Rattle.std.proofs.Common.{◌≡◌, ◌≢◌, ◌≤◌, ◌<◌, ◌++◌, ◌&&◌, ◌==◌, inl, inr, ◌∙◌, ℕ, true, not, nat_le, List, [], ◌∷◌, length, take, drop, slice_index, refl, ap, sym, arith, Some, None}
+use Rattle.std.proofs.Common.{◌≡◌, ◌≤◌, ◌<◌, ◌++◌, ◌∙◌, ℕ, true, nat_le, List, [], ◌∷◌, length, take, drop, slice_index, refl, ap, sym, arith, Some, None}
 use Rattle.std.proofs.lemmas.List.{take-append-drop}
 use Rattle.std.proofs.lemmas.Bool.Decides.{nat_tests}
 use Rattle.mo_lexer.specs.declared.piece.Piece.{Piece}
 use Rattle.mo_lexer.specs.declared.piece.Piece.TheVariants as piece
 use Rattle.mo_lexer.specs.declared.token.Sym.{Sym}
 use Rattle.mo_lexer.specs.declared.token.Sym.TheVariants as sym_of
-use Rattle.mo_lexer.specs.Bytes.{is_separator, is_letter, is_digit}
 use Rattle.mo_lexer.specs.Spelling.{Spells, symbol_bytes}
 use Rattle.mo_lexer.specs.Tokens.{Begins, BeginsNone}
 use Rattle.mo_lexer.specs.Front.{is_other, IsSymbolOf}
-use Rattle.mo_lexer.proofs.Pieces.{both, begins, starts, some_bytes}
-use Rattle.mo_lexer.proofs.Runs.{not_both}
+use Rattle.mo_lexer.proofs.Pieces.{begins, some_bytes}
+use Rattle.mo_lexer.proofs.FirstBytes.{symbol_only, spelled_as}
 
 sizes : (s : Sym) → nat_le (length (symbol_bytes s)) 2 ≡ true
 sizes sym_of.RoundOpen = refl
@@ -20,24 +19,8 @@ sizes _ = refl
 symbol_short : (q : List ℕ) (s : Sym) → q ≡ symbol_bytes s → length q ≤ 2
 symbol_short q s e = let short : nat_le (length q) 2 ≡ true = ap (λ z. nat_le (length z) 2) e ∙ sizes s in grind (arith, nat_tests)
 
--- a byte that is another fails each of these tests
-parts : (b : ℕ) → is_other b ≡ true → (not (is_letter b) ≡ true) × (not (is_separator b) ≡ true) × (not (is_digit b) ≡ true) × (b ≢ 34) × (b ≢ 47)
-parts b h =
-    let four = both (not (is_letter b) && not (is_separator b) && not (is_digit b) && not (b == 34)) (not (b == 47)) h in
-    let three = both (not (is_letter b) && not (is_separator b) && not (is_digit b)) (not (b == 34)) four.0 in
-    let two = both (not (is_letter b) && not (is_separator b)) (not (is_digit b)) three.0 in
-    let one = both (not (is_letter b)) (not (is_separator b)) two.0 in
-    (one.0, one.1, two.1, (λ e. let same : b == 34 ≡ true = grind (arith, nat_tests) in not_both same three.1), (λ e. let same : b == 47 ≡ true = grind (arith, nat_tests) in not_both same four.1))
-
 only_symbols : (other : Piece) (c : ℕ) (q : List ℕ) → is_other c ≡ true → Spells other (c ∷ q) → (s : Sym) × (c ∷ q ≡ symbol_bytes s)
-only_symbols piece.Separator c q is h = absurd (not_both (starts piece.Separator c q h) (parts c is).1)
-only_symbols piece.Comment c q is h = absurd ((parts c is).4 (starts piece.Comment c q h))
-only_symbols piece.Unended c q is h = elim (starts piece.Unended c q h) [ inl e ↦ absurd ((parts c is).4 e) | inr e ↦ absurd ((parts c is).3 e) ]
-only_symbols piece.Word c q is h = absurd (not_both (starts piece.Word c q h) (parts c is).0)
-only_symbols piece.Integer c q is h = absurd (not_both (starts piece.Integer c q h) (parts c is).2)
-only_symbols piece.Real c q is h = absurd (not_both (starts piece.Real c q h) (parts c is).2)
-only_symbols piece.Text c q is h = absurd ((parts c is).3 (starts piece.Text c q h))
-only_symbols (piece.Symbol s) c q is h = (s, h)
+only_symbols other c q is h = let symbol = symbol_only other c q is h in (symbol.0, spelled_as (c ∷ q) symbol.1 h)
 
 one_byte : (t : List ℕ) → 0 < length t → t ≡ slice_index t 0 ∷ drop 1 t
 one_byte [] h = absurd (omega arith)

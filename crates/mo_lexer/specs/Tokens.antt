@@ -75,6 +75,14 @@ AreTokens text tokens = Divided text (mark_len text) tokens
 abbrev pub IsFaultAt : List ℕ → LexCode → ℕ → Type 0
 IsFaultAt text code at = Faulty text (mark_len text) code at
 
+-- the text has a token list
+abbrev pub HasTokens : List ℕ → Type 0
+HasTokens text = (tokens : List Token) × AreTokens text tokens
+
+-- the text has a lexical fault
+abbrev pub HasFault : List ℕ → Type 0
+HasFault text = (code : LexCode) × (at : ℕ) × IsFaultAt text code at
+
 -- what `lex` answers
 abbrev pub Lexes : List ℕ → Result (List Token) LexEnd → Type 0
 Lexes text (Ok tokens) = AreTokens text tokens

@@ -5,11 +5,16 @@ mod byte;
 mod fault;
 mod front;
 mod keyword;
+mod law;
 mod lexing;
 mod piece;
 mod token;
 
 pub use fault::{LexCode, LexEnd};
+pub use law::tokens_law;
 pub use lexing::lex;
 pub use piece::Piece;
 pub use token::{Sym, Token, TokenKind, Word};
+
+#[cfg(test)]
+mod tests;

@@ -12,3 +12,6 @@ pub use list::List;
 pub use relation::relate;
 pub use text::Text;
 pub use value::{ChainOp, Fail, Rel, Value};
+
+#[cfg(test)]
+mod tests;

@@ -1,0 +1,172 @@
+use crate::TokenKind::{End, Ident, Integer, Keyword, Real, Symbol};
+use crate::{LexCode, LexEnd, Sym, TokenKind, Word, lex, tokens_law};
+use std::alloc::Global;
+use std::process::Abort;
+use std::test::Fail;
+
+const LIMIT: usize = 1 << 20;
+
+/// A kind with its first byte and the byte behind it.
+type Place = (TokenKind, u32, u32);
+
+fn has_tokens(rt: &impl Abort, alloc: Global, text: &[u8], wanted: &[Place]) -> Result<(), Fail> {
+    assert!(rt; text.len() <= LIMIT);
+    let tokens = lex(alloc, text)?;
+    assert_eq!(rt; tokens.len(), wanted.len(), "at {text:?}");
+    for (token, place) in tokens.as_slice().iter().zip(wanted) {
+        assert_eq!(rt; (token.kind, token.at, token.end), *place, "at {text:?}");
+    }
+    Ok(())
+}
+
+fn has_fault(rt: &impl Abort, alloc: Global, text: &[u8], code: LexCode, at: u32) {
+    assert!(rt; text.len() <= LIMIT);
+    match lex(alloc, text) {
+        Ok(_) => assert!(rt; false, "tokens at {text:?}"),
+        Err(end) => assert_eq!(rt; end, LexEnd::Fault { code, at }, "at {text:?}"),
+    }
+}
+
+#[test]
+fn tokens_of_texts(rt: HostRuntime) -> Result<(), Fail> {
+    let cases: [(&[u8], &[Place]); 22] = [
+        (b"", &[(End, 0, 0)]),
+        (
+            b"\xEF\xBB\xBFmodel M",
+            &[
+                (Keyword(Word::KwModel), 3, 8),
+                (Ident, 9, 10),
+                (End, 10, 10),
+            ],
+        ),
+        (b" x_1\r\n", &[(Ident, 1, 4), (End, 6, 6)]),
+        (
+            b"if ifx",
+            &[(Keyword(Word::KwIf), 0, 2), (Ident, 3, 6), (End, 6, 6)],
+        ),
+        (b"1.", &[(Real, 0, 2), (End, 2, 2)]),
+        (b"1.e", &[(Real, 0, 2), (Ident, 2, 3), (End, 3, 3)]),
+        (
+            b"1e+",
+            &[
+                (Integer(1), 0, 1),
+                (Ident, 1, 2),
+                (Symbol(Sym::Plus), 2, 3),
+                (End, 3, 3),
+            ],
+        ),
+        (b"1e-05", &[(Real, 0, 5), (End, 5, 5)]),
+        (b"1.25E5", &[(Real, 0, 6), (End, 6, 6)]),
+        (
+            b"1..2",
+            &[
+                (Real, 0, 2),
+                (Symbol(Sym::Dot), 2, 3),
+                (Integer(2), 3, 4),
+                (End, 4, 4),
+            ],
+        ),
+        (
+            b".5",
+            &[(Symbol(Sym::Dot), 0, 1), (Integer(5), 1, 2), (End, 2, 2)],
+        ),
+        (
+            b"9223372036854775807",
+            &[(Integer(9223372036854775807), 0, 19), (End, 19, 19)],
+        ),
+        (b"<>", &[(Symbol(Sym::Unequal), 0, 2), (End, 2, 2)]),
+        (b":=", &[(Symbol(Sym::Assign), 0, 2), (End, 2, 2)]),
+        (
+            b"<==",
+            &[
+                (Symbol(Sym::LessEq), 0, 2),
+                (Symbol(Sym::Equals), 2, 3),
+                (End, 3, 3),
+            ],
+        ),
+        (
+            b"=<",
+            &[
+                (Symbol(Sym::Equals), 0, 1),
+                (Symbol(Sym::Less), 1, 2),
+                (End, 2, 2),
+            ],
+        ),
+        (b"a//", &[(Ident, 0, 1), (End, 3, 3)]),
+        (b"// \"\n*", &[(Symbol(Sym::Times), 5, 6), (End, 6, 6)]),
+        (b"/*/*/a/**/", &[(Ident, 5, 6), (End, 10, 10)]),
+        (b"/", &[(Symbol(Sym::Over), 0, 1), (End, 1, 1)]),
+        (b"\"\\\"\\\\\"", &[(TokenKind::Text, 0, 6), (End, 6, 6)]),
+        (
+            b"\"\xC3\"\"\"",
+            &[
+                (TokenKind::Text, 0, 3),
+                (TokenKind::Text, 3, 5),
+                (End, 5, 5),
+            ],
+        ),
+    ];
+    for (text, wanted) in cases {
+        has_tokens(&rt, rt.alloc(), text, wanted)?;
+    }
+    tokens_law(b"x");
+    Ok(())
+}
+
+#[test]
+fn faults_of_texts(rt: HostRuntime) {
+    let cases: [(&[u8], LexCode, u32); 14] = [
+        (b"model M\n/* x\nend M;", LexCode::L2, 8),
+        (b"model M @ end M;", LexCode::L1, 8),
+        (b"model M Integer x = 9223372036854775808;", LexCode::L3, 20),
+        (b"/* /* */ */ x @", LexCode::L1, 14),
+        (b"a /*/", LexCode::L2, 2),
+        (b"\"ab", LexCode::L2, 0),
+        (b"\"ab\\", LexCode::L2, 0),
+        (b"a \"\\\"", LexCode::L2, 2),
+        (b"\xEF\xBB\xBF\xEF\xBB\xBF", LexCode::L1, 3),
+        (b"a\xEF\xBB\xBF", LexCode::L1, 1),
+        (b"\xEF\xBB", LexCode::L1, 0),
+        (b"@ \"", LexCode::L1, 0),
+        (b"\" @", LexCode::L2, 0),
+        (b"9223372036854775808 @", LexCode::L3, 0),
+    ];
+    for (text, code, at) in cases {
+        has_fault(&rt, rt.alloc(), text, code, at);
+    }
+}
+
+#[test]
+fn limits(rt: HostRuntime) -> Result<(), Fail> {
+    let mut name = vec![in rt.alloc(); b'a'; 128]?;
+    has_tokens(&rt, rt.alloc(), &name, &[(Ident, 0, 128), (End, 128, 128)])?;
+    name.push(b'1')?;
+    has_fault(&rt, rt.alloc(), &name, LexCode::L4, 0);
+    let mut digits = vec![in rt.alloc(); b'9'; 400]?;
+    has_fault(&rt, rt.alloc(), &digits, LexCode::L3, 0);
+    digits.push(b'.')?;
+    has_tokens(&rt, rt.alloc(), &digits, &[(Real, 0, 401), (End, 401, 401)])
+}
+
+#[test]
+fn every_second_byte(rt: HostRuntime) -> Result<(), Fail> {
+    let of_words = b"ABCDEFGHIJKLMNOPQRSTUVWXYZ_abcdefghijklmnopqrstuvwxyz0123456789";
+    for byte in 0..=255u8 {
+        let text = [b'm', byte, b' '];
+        match byte {
+            b'"' => has_fault(&rt, rt.alloc(), &text, LexCode::L2, 1),
+            b' ' | b'\t' | b'\n' | b'\r' => {
+                has_tokens(&rt, rt.alloc(), &text, &[(Ident, 0, 1), (End, 3, 3)])?;
+            }
+            _ if of_words.contains(&byte) => {
+                has_tokens(&rt, rt.alloc(), &text, &[(Ident, 0, 2), (End, 3, 3)])?;
+            }
+            _ if b"(){}[],;:.=<>+-*/^".contains(&byte) => {
+                let tokens = lex(rt.alloc(), &text)?;
+                assert_eq!(rt; tokens.len(), 3, "at {byte}");
+            }
+            _ => has_fault(&rt, rt.alloc(), &text, LexCode::L1, 1),
+        }
+    }
+    Ok(())
+}
