@@ -1,4 +1,4 @@
--- How the tokens of the first form are read, one after the other.
+-- How the tokens of the first form are read, one after the other. Only contracts of private functions cite this: the form itself is defined by FirstForm, and that the two agree is proved.
 use Rattle.std.specs.Prelude.{◌≡◌, ℕ, zero, suc, ◌^◌, ℤ, pos, neg_ℤ, Bool, true, false, ◌&&◌, if◌then◌else◌, nat_lt, nat_le, List, [], ◌∷◌, ◌++◌, length, position, bytes_eq, codes, Option, Some, None, Result, Ok, Err, ⊤}
 use denote.Enum.Bare.{sameb}
 use denote.Ref.{Bor}
