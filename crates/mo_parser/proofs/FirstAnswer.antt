@@ -1,12 +1,13 @@
 -- What the answer of the first form rests on.
-use Rattle.std.proofs.Common.{◌≡◌, ◌∙◌, ◌≤◌, ℕ, Bool, true, false, List, [], length, Err, refl, ap, sym, subst}
+use Rattle.std.proofs.Common.{◌≡◌, ◌≤◌, ℕ, true, List, [], length, Err, subst}
 use Rattle.std.specs.Prelude.{codes}
 use Rattle.std.specs.List.{Contains}
 use Rattle.mo_lexer.specs.declared.token.Token.{Token}
-use Rattle.mo_lexer.specs.Tokens.{AreTokens, Lexes, mark_len}
+use Rattle.mo_lexer.specs.Tokens.{AreTokens, Lexes}
 use Rattle.mo_lexer.specs.declared.fault.LexCode.{LexCode}
 use Rattle.mo_lexer.specs.declared.fault.LexEnd.{LexEnd}
 use Rattle.mo_lexer.specs.declared.fault.LexEnd.TheVariants.{Fault}
+use Rattle.mo_lexer.proofs.Laws.{never_both, one_token_list}
 use Rattle.mo_parser.specs.declared.first_model.FirstModel.{FirstModel}
 use Rattle.mo_parser.specs.FirstForm.{Lexeme, lexemes}
 use Rattle.mo_parser.specs.FirstModel.{AreDistinct}
@@ -17,12 +18,11 @@ use Rattle.mo_parser.specs.Ordered.{IsOrdered}
 use Rattle.mo_parser.proofs.FirstComplete.{model_read}
 use Rattle.mo_parser.proofs.FirstFacts.{name_starts, short_names, unsigned_numbers}
 use Rattle.mo_parser.proofs.FirstSound.{model_spelled}
-use Rattle.mo_parser.proofs.FirstTokens.{no_tokens, tokens_one}
 
 -- the tokens of a text of the form are plain and are read as its model
 pub text_read : (text : List ℕ) (tokens : List Token) (m : FirstModel) → AreTokens text tokens → IsFirstText text m → (is_plain text 0 tokens ≡ true) × (model (lexemes text tokens) ≡ Took m [])
 text_read text tokens m belong first =
-    let same = tokens_one text (mark_len text) first.tokens tokens first.belong belong in (
+    let same = one_token_list text first.tokens tokens first.belong belong in (
       subst (λ ts. is_plain text 0 ts ≡ true) same first.plain,
       subst (λ ts. model (lexemes text ts) ≡ Took m []) same (model_read m (lexemes text first.tokens) first.spelled first.model_is.distinct first.model_is.few first.model_is.clock),
     )
@@ -57,7 +57,7 @@ text_built text tokens m rest belong plain h distinct few timeless ordered =
 
 -- a text with a lexical fault is of no form
 pub fault_none : (text : List ℕ) (e : LexEnd) (code : LexCode) (at : ℕ) → Lexes text (Err e) → e ≡ Fault code at → (m : FirstModel) → IsFirstText text m → ⊥
-fault_none text e code at h is m first = no_tokens text (mark_len text) at code first.tokens (subst (λ x. Lexes text (Err x)) is h) first.belong
+fault_none text e code at h is m first = never_both text first.tokens code at first.belong (subst (λ x. Lexes text (Err x)) is h)
 
 -- a text has at most one model of the form
 pub model_one : AtMostOneModel

@@ -1,5 +1,5 @@
 -- What is spelled is read.
-use Rattle.std.proofs.Common.{◌≡◌, ◌∙◌, ◌++◌, ◌+◌, ◌^◌, ◌<◌, ◌≤◌, ℕ, zero, suc, ℤ, pos, neg_ℤ, Bool, true, false, ◌&&◌, nat_lt, nat_le, List, [], ◌∷◌, length, Option, Some, None, refl, ap, ap₂, sym, subst, append_assoc, append-nil, arith, get_or}
+use Rattle.std.proofs.Common.{◌≡◌, ◌∙◌, ◌++◌, ◌+◌, ◌^◌, ◌<◌, ◌≤◌, ℕ, zero, suc, ℤ, Bool, true, false, ◌&&◌, nat_lt, nat_le, List, [], ◌∷◌, length, Some, refl, ap, sym, append_assoc, append-nil, arith, get_or}
 use Rattle.std.specs.Prelude.{codes}
 use Rattle.std.specs.Str.{bytes_eq}
 use Rattle.std.specs.List.{position, position_or_len, slice_get}
@@ -8,15 +8,14 @@ use Rattle.std.proofs.lemmas.List.Sums.{position_or_len_is}
 use Rattle.std.proofs.lemmas.Option.{get_or_from_slice_get, slice_get-get_or, slice_get_within}
 use Rattle.std.proofs.lemmas.Bool.{false_from_ne_true}
 use Rattle.std.proofs.lemmas.Slice.Eq.{bytes_eq-Decides}
-use Rattle.mo_lexer.specs.declared.token.Sym.TheVariants.{RoundOpen, RoundClose, Comma, Semicolon, Equals, Plus, Minus}
-use Rattle.mo_lexer.specs.declared.token.Word.TheVariants.{KwModel, KwEquation, KwWhen, KwThen, KwEnd}
+use Rattle.mo_lexer.specs.declared.token.Sym.TheVariants.{RoundOpen, RoundClose, Comma, Semicolon, Equals, Plus}
+use Rattle.mo_lexer.specs.declared.token.Word.TheVariants.{KwEquation, KwWhen, KwThen, KwEnd}
 use Rattle.mo_parser.specs.declared.first_model.FirstModel.{FirstModel}
 use Rattle.mo_parser.specs.declared.first_model.FirstEq.{FirstEq}
 use Rattle.mo_parser.specs.declared.first_model.FirstTerm.{FirstTerm}
-use Rattle.mo_parser.specs.declared.first_model.FirstTerm.TheVariants.{Number, Read, Previous}
 use Rattle.mo_parser.specs.FirstModel.{AreDistinct, IsFirstClock}
-use Rattle.mo_parser.specs.FirstForm.{Lexeme, Name, Whole, Key, Mark, Finish, Foreign, Start, no_start, start as a_start, negative, Declarations, no_declaration, declaration as a_declaration, Clock, counted, resolved, Atom, number, read, previous, Sum, one, plus, Equations, no_equation, equation as an_equation, Form, form}
-use Rattle.mo_parser.specs.FirstReading.{Outcome, Parser, Took, Stuck, ◌>>=◌, head, tail, is_mark, is_key, is_named, is_name, is_whole, taken, mark, key, named, name, whole, finish, signed, start, declaration, declarations, clock, clock_number, resolution, index_by, number_of, declared, named_atom, named_atom_by, atom, atom_by, sum, sum_by, equation, equations, heading, opening, closing, clause, model}
+use Rattle.mo_parser.specs.FirstForm.{Lexeme, Name, Whole, Key, Mark, Finish, Start, no_start, start as a_start, negative, Declarations, no_declaration, declaration as a_declaration, Clock, counted, resolved, Atom, number, read, previous, Sum, one, plus, Equations, no_equation, equation as an_equation, Form, form}
+use Rattle.mo_parser.specs.FirstReading.{Took, head, is_mark, mark, key, named, name, whole, signed, start, declaration, declarations, clock, clock_number, resolution, number_of, declared, named_atom, atom, sum, equation, equations, heading, opening, closing, clause, model}
 
 same_bytes : (s : List ℕ) → bytes_eq s s ≡ true
 same_bytes s = (bytes_eq-Decides s s).1 refl

@@ -1,5 +1,5 @@
 -- What holds of a model that tokens of a text spell.
-use Rattle.std.proofs.Common.{◌≡◌, ◌⊎◌, inl, inr, ◌∙◌, ◌+◌, ◌-◌, ◌^◌, ◌<◌, ◌≤◌, ◌≤ℤ◌, ◌∷◌, [], ℕ, zero, suc, ℤ, pos, negsuc, Bool, true, false, nat_lt, nat_le, List, length, take, drop, get_or, Option, Some, None, Result, Ok, Err, refl, ap, sym, subst, arith}
+use Rattle.std.proofs.Common.{[], ◌≡◌, ◌∙◌, ◌+◌, ◌-◌, ◌^◌, ◌<◌, ◌≤◌, ◌≤ℤ◌, ◌∷◌, ℕ, zero, suc, ℤ, pos, negsuc, Bool, true, false, nat_lt, nat_le, List, length, take, drop, get_or, Option, Some, None, Ok, Err, refl, ap, sym, subst, arith}
 use Rattle.std.specs.Prelude.{if◌then◌else◌}
 use Rattle.std.specs.List.{All, Contains, slice_get}
 use Rattle.std.proofs.lemmas.Bool.Decides.{nat_tests}
@@ -10,7 +10,6 @@ use Rattle.mo_lexer.specs.declared.token.Token.{Token}
 use Rattle.mo_lexer.specs.declared.token.TokenKind.{TokenKind}
 use Rattle.mo_lexer.specs.declared.token.TokenKind.TheVariants as kind
 use Rattle.mo_lexer.specs.declared.token.Word.{Word}
-use Rattle.mo_lexer.specs.declared.fault.LexCode.{LexCode}
 use Rattle.mo_lexer.specs.declared.fault.LexCode.TheVariants.{L3, L4}
 use Rattle.mo_lexer.specs.declared.token.Sym.TheVariants.{Semicolon, Plus}
 use Rattle.mo_lexer.specs.Keywords.{keyword_of}
@@ -18,11 +17,15 @@ use Rattle.mo_lexer.specs.Tokens.{AreTokens, Divided, ended, gap, token, mark_le
 use Rattle.mo_parser.specs.declared.first_model.FirstModel.{FirstModel}
 use Rattle.mo_parser.specs.declared.first_model.FirstEq.{FirstEq}
 use Rattle.mo_parser.specs.declared.first_model.FirstTerm.{FirstTerm}
-use Rattle.mo_parser.specs.declared.first_model.FirstTerm.TheVariants.{Number, Read, Previous}
+use Rattle.mo_parser.specs.declared.first_model.FirstTerm.TheVariants.{Number}
 use Rattle.mo_parser.specs.FirstForm.{Lexeme, Name, Mark, lexeme_by, lexemes, Start, no_start, start as a_start, negative, Declarations, no_declaration, declaration as a_declaration, Atom, number, read, previous, Sum, one, plus, Equations, no_equation, equation as an_equation, Form, form}
-use Rattle.mo_parser.proofs.FirstTokens.{AreShort}
 
 -- ---- names are short
+
+abbrev AreShort : List Lexeme → Type 0
+AreShort [] = Unit {0}
+AreShort (Name s ∷ ts) = (length s ≤ 128) × AreShort ts
+AreShort (other ∷ ts) = AreShort ts
 
 word_short : (word : Option Word) (bytes : List ℕ) → word_token word bytes ≡ Ok (Some kind.Ident) → length bytes ≤ 128
 word_short (Some word) bytes h = cc

@@ -1,5 +1,5 @@
 -- The bytes between tokens.
-use Rattle.std.proofs.Common.{◌≡◌, ◌≤◌, ◌-◌, ◌∙◌, ◌&&◌, ℕ, Bool, true, false, List, [], ◌∷◌, take, drop, length, refl, ap, sym, subst}
+use Rattle.std.proofs.Common.{◌≡◌, ◌-◌, ◌∙◌, ◌&&◌, ℕ, true, List, ◌∷◌, take, drop, ap, sym, subst}
 use Rattle.std.specs.List.{list_all}
 use Rattle.mo_lexer.specs.declared.token.Token.{Token}
 use Rattle.mo_lexer.specs.Bytes.{is_separator}
@@ -11,6 +11,3 @@ pub plain_further : (text : List ℕ) (at : ℕ) (t : Token) (left after : List 
 plain_further text at t left after step ordered gap =
     let further = subst (AreInOrder text at) step ordered in
     (further.3, sym (ap (is_plain text at) step ∙ ap (λ b. b && is_plain text t.end after) gap))
-
-pub not_plain : (text : List ℕ) (at : ℕ) (t : Token) (left after : List Token) → left ≡ t ∷ after → list_all is_separator (take (t.at - at) (drop at text)) ≡ false → is_plain text at left ≡ false
-not_plain text at t left after step gap = ap (is_plain text at) step ∙ ap (λ b. b && is_plain text t.end after) gap

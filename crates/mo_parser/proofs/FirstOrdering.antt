@@ -1,16 +1,16 @@
 -- Equations that are taken one after the other, and the names that they reach.
-use Rattle.std.proofs.Common.{◌≡◌, ◌≢◌, ◌⊎◌, inl, inr, ◌∙◌, ◌+◌, ◌<◌, ◌≤◌, ◌&&◌, ◌==◌, ℕ, zero, suc, Bool, true, false, nat_lt, List, [], ◌∷◌, length, get_or, set, replicate, Some, None, refl, ap, ap₂, sym, subst, arith}
+use Rattle.std.proofs.Common.{◌≡◌, ◌≢◌, ◌⊎◌, inl, inr, ◌∙◌, ◌+◌, ◌<◌, ◌≤◌, ◌&&◌, ◌==◌, ℕ, zero, suc, Bool, true, false, List, [], ◌∷◌, length, get_or, set, Some, refl, ap, ap₂, sym, subst, arith}
 use Rattle.std.specs.List.{Contains, list_all, slice_get}
-use Rattle.std.proofs.lemmas.Bool.{cases_Bool, cases_eq, cases_lt, false_from_ne_true}
+use Rattle.std.proofs.lemmas.Bool.{cases_eq, cases_lt, false_from_ne_true}
 use Rattle.std.proofs.lemmas.Bool.Decides.{nat_tests}
-use Rattle.std.proofs.lemmas.List.{get_or-replicate, get_or_read, get_or-set_other, get_or-set_same, get_or_past, length-set}
+use Rattle.std.proofs.lemmas.List.{get_or_read, get_or-set_other, get_or-set_same, get_or_past, length-set}
 use Rattle.std.proofs.lemmas.Option.{slice_get_within}
 use Rattle.mo_parser.specs.declared.first_model.FirstModel.{FirstModel}
 use Rattle.mo_parser.specs.declared.first_model.FirstEq.{FirstEq}
 use Rattle.mo_parser.specs.declared.first_model.FirstTerm.{FirstTerm}
 use Rattle.mo_parser.specs.declared.first_model.FirstTerm.TheVariants.{Number, Read, Previous}
 use Rattle.mo_parser.specs.FirstOrder.{may_read}
-use Rattle.mo_parser.specs.Ordered.{IsOrdered, IsOrderedTerm, Reaches, ReachesEachOnce}
+use Rattle.mo_parser.specs.Ordered.{IsOrdered, IsOrderedTerm, Reaches}
 
 both_true : (p q : Bool) → (p && q) ≡ true → (p ≡ true) × (q ≡ true)
 both_true true q h = (refl, h)
@@ -64,19 +64,6 @@ pub record UpTo (model : FirstModel) (i : ℕ) (reached : List Bool) : Type 0 wh
   pub once : (j k x : ℕ) → j < i → k < i → Reaches model j x → Reaches model k x → j ≡ k
   pub terms : (j : ℕ) (e : FirstEq) (t : FirstTerm) → j < i → slice_get model.equations j ≡ Some e → Contains e.terms t → IsOrderedTerm model j t
   pub some_term : (j : ℕ) (e : FirstEq) → j < i → slice_get model.equations j ≡ Some e → e.terms ≢ []
-
-pub up_to-start : (model : FirstModel) (reached : List Bool) → reached ≡ replicate (length model.names) false → length reached ≡ length model.names → UpTo model 0 reached
-up_to-start model reached are size = record {
-  size = size;
-  found = λ x h. absurd (elim (cases_lt x (length reached)) [
-    | inl within ↦ let clear : get_or reached x false ≡ false = ap (λ (bs : List Bool). get_or bs x false) are ∙ get_or-replicate (length model.names) x false false (omega arith) in cc
-    | inr past ↦ let none = get_or_past reached x false past in cc
-  ]);
-  marked = λ j x below r. absurd (omega arith);
-  once = λ j k x below further r s. absurd (omega arith);
-  terms = λ j e t below at there. absurd (omega arith);
-  some_term = λ j e below at. absurd (omega arith);
-}
 
 module _ (model : FirstModel) (i : ℕ) (reached : List Bool) (up : UpTo model i reached) where
   may_read_term : (t : FirstTerm) → may_read reached t ≡ true → IsOrderedTerm model i t

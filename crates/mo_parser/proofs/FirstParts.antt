@@ -1,9 +1,8 @@
 -- A reading of a whole text, part by part.
-use Rattle.std.proofs.Common.{◌≡◌, ◌∙◌, ℕ, ℤ, List, [], ◌∷◌, length, ap, refl, sym, Err}
+use Rattle.std.proofs.Common.{◌≡◌, ℕ, ℤ, List, [], length, ap, refl, sym, Err}
 use Rattle.mo_parser.specs.declared.first_model.FirstModel.{FirstModel}
 use Rattle.mo_parser.specs.declared.first_model.FirstEq.{FirstEq}
 use Rattle.mo_parser.specs.FirstForm.{Lexeme}
-use Rattle.mo_parser.specs.FirstModel.{AreDistinct}
 use Rattle.mo_parser.specs.FirstReading.{Outcome, Took, Stuck, ◌>>=◌, Reads, ReadsBytes, clause, declarations, heading, model, model_of}
 use Rattle.mo_parser.specs.declared.first_model.FirstEnd.{FirstEnd}
 use Rattle.mo_parser.specs.declared.first_model.FirstEnd.TheVariants.{NotBuilt, NoMemory}

@@ -1,5 +1,5 @@
 -- What is read is spelled so.
-use Rattle.std.proofs.Common.{◌≡◌, ◌⊎◌, inl, inr, ◌∙◌, ◌++◌, ◌^◌, ◌<◌, ◌≤◌, ℕ, zero, suc, ℤ, pos, negsuc, neg_ℤ, Bool, true, false, ◌&&◌, nat_lt, nat_le, List, [], ◌∷◌, length, Option, Some, None, refl, ap, sym, subst, append_assoc, append-nil, arith, lit<, lit≤, get_or}
+use Rattle.std.proofs.Common.{◌≡◌, ◌⊎◌, inl, inr, ◌∙◌, ◌++◌, ◌^◌, ◌<◌, ◌≤◌, ℕ, zero, suc, ℤ, pos, neg_ℤ, Bool, true, false, ◌&&◌, nat_lt, nat_le, List, [], ◌∷◌, length, Option, Some, None, refl, ap, sym, subst, append_assoc, append-nil, arith, lit<, lit≤, get_or}
 use Rattle.std.specs.Prelude.{codes}
 use Rattle.std.specs.Str.{bytes_eq}
 use Rattle.std.specs.List.{position, slice_get}
@@ -19,7 +19,7 @@ use Rattle.mo_parser.specs.declared.first_model.FirstEq.{FirstEq}
 use Rattle.mo_parser.specs.declared.first_model.FirstTerm.{FirstTerm}
 use Rattle.mo_parser.specs.declared.first_model.FirstTerm.TheVariants.{Number, Read, Previous}
 use Rattle.mo_parser.specs.FirstModel.{IsFirstClock}
-use Rattle.mo_parser.specs.FirstForm.{Lexeme, Name, Whole, Key, Mark, Finish, Foreign, Start, no_start, start as a_start, negative, Declarations, no_declaration, declaration as a_declaration, Clock, counted, resolved, Atom, number, read, previous, Sum, one, plus, Equations, no_equation, equation as an_equation, Form, form}
+use Rattle.mo_parser.specs.FirstForm.{Lexeme, Name, Whole, Key, Mark, Finish, Start, no_start, start as a_start, negative, Declarations, no_declaration, declaration as a_declaration, Clock, counted, resolved, Atom, number, read, previous, Sum, one, plus, Equations, no_equation, equation as an_equation, Form, form}
 use Rattle.mo_parser.specs.FirstReading.{Outcome, Parser, Took, Stuck, ◌>>=◌, head, tail, is_mark, is_key, is_named, is_name, is_whole, taken, mark, key, named, name, whole, finish, signed, signed_by, start, start_by, declaration, declarations, declarations_by, clock, clock_number, clock_number_by, resolution, resolution_by, index_by, number_of, declared, named_atom, named_atom_by, atom, atom_by, sum, sum_by, equation, equations, equations_by, heading, opening, closing, clause, model, model_of}
 
 -- what a sequence read, part by part

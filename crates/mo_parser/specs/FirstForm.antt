@@ -1,4 +1,4 @@
--- Which tokens spell a model of the first form. A relation of a and b, last among its arguments, says that a begins with tokens that spell what stands before them, and that b follows these.
+-- Which tokens spell a model of the first form. The last two arguments of a relation are lists of tokens: the first begins with tokens that spell the other arguments, and the second is what follows these.
 use Rattle.std.specs.Prelude.{◌≡◌, ℕ, ℤ, pos, negsuc, neg_ℤ, List, [], ◌∷◌, Some, slice_get, map, codes}
 use Rattle.mo_lexer.specs.Tokens.{spelling}
 use Rattle.mo_lexer.specs.declared.token.Token.{Token}

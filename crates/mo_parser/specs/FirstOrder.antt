@@ -1,5 +1,5 @@
 -- What a term may read where some names are reached.
-use Rattle.std.specs.Prelude.{ℕ, Bool, true, false, List, length, nat_lt, slice_index_or}
+use Rattle.std.specs.Prelude.{Bool, true, false, List, length, nat_lt, slice_index_or}
 use Rattle.mo_parser.specs.declared.first_model.FirstTerm.{FirstTerm}
 use Rattle.mo_parser.specs.declared.first_model.FirstTerm.TheVariants.{Number, Read, Previous}
 

@@ -1,5 +1,5 @@
--- How the tokens of the first form are read, one after the other.
-use Rattle.std.specs.Prelude.{◌≡◌, ℕ, zero, suc, ◌+◌, ◌^◌, ℤ, pos, neg_ℤ, Bool, true, false, ◌&&◌, if◌then◌else◌, nat_lt, nat_le, List, [], ◌∷◌, ◌++◌, length, position, bytes_eq, codes, Option, Some, None, Result, Ok, Err, ⊤}
+-- How the tokens of the first form are read, one after the other. Only contracts of private functions cite this: the form itself is defined by FirstForm, and that the two agree is proved.
+use Rattle.std.specs.Prelude.{◌≡◌, ℕ, zero, suc, ◌^◌, ℤ, pos, neg_ℤ, Bool, true, false, ◌&&◌, if◌then◌else◌, nat_lt, nat_le, List, [], ◌∷◌, ◌++◌, length, position, bytes_eq, codes, Option, Some, None, Result, Ok, Err, ⊤}
 use denote.Enum.Bare.{sameb}
 use denote.Ref.{Bor}
 use Rattle.mo_lexer.specs.declared.token.Word.{Word}
@@ -14,7 +14,7 @@ use Rattle.mo_parser.specs.declared.first_model.FirstTerm.{FirstTerm}
 use Rattle.mo_parser.specs.declared.first_model.FirstTerm.TheVariants.{Number, Read, Previous}
 use Rattle.mo_parser.specs.declared.first_model.FirstEnd.{FirstEnd}
 use Rattle.mo_parser.specs.declared.first_model.FirstEnd.TheVariants as ends
-use Rattle.mo_parser.specs.FirstForm.{Lexeme, Name, Whole, Key, Mark, Finish, Foreign}
+use Rattle.mo_parser.specs.FirstForm.{Lexeme, Name, Whole, Key, Mark, Finish}
 
 -- what was read with the tokens after it, or that nothing of the kind stands there
 pub data Outcome (A : Type 0) : Type 0 where

@@ -28,7 +28,8 @@ fn has_time(names: &[Text]) -> bool
 /// The model that the tokens spell, with names that differ.
 fn read_model(alloc: Global, tokens: &mut Reader<'_>) -> Result<FirstModel, FirstEnd>
     ensures built { IfOk result (λ m. (spec.model tokens.old ≡ spec.Took m tokens.new) × AreDistinct m.names) }
-    ensures not_built { result ≡ Err FirstEnd.NotBuilt → (m : FirstModel) → spec.model tokens.old ≡ spec.Took m [] → ¬ AreDistinct m.names }
+    ensures not_built { result ≡ Err FirstEnd.NotBuilt → (m : FirstModel) →
+        spec.model tokens.old ≡ spec.Took m [] → ¬ AreDistinct m.names }
 {
     let title = heading(tokens)?;
     let (names, starts) = declarations(alloc, tokens)?;
@@ -47,7 +48,8 @@ fn read_model(alloc: Global, tokens: &mut Reader<'_>) -> Result<FirstModel, Firs
 ///
 /// The form has declarations of Integers with starts, and one clause on one rational clock. Its
 /// equations are sums of whole numbers, names and `previous` of names, and each name is reached by
-/// one equation before another reads it. A text with a comment is not of the form.
+/// one equation before another reads it. A text with a comment is not of the form. The form is this
+/// project's own; its tokens are those of `lex`.
 pub fn parse_first(alloc: Global, text: &[u8]) -> Result<FirstModel, FirstEnd>
     requires { length text.now ≤ 2 ^ 20 }
     ensures ok { IfOk result (IsFirstText text.now) }

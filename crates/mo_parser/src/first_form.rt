@@ -196,7 +196,8 @@ fn equations(
     tokens: &mut Reader<'_>,
     scope: &IndexSet<Vec<u8>>,
 ) -> Result<List<FirstEq>, FirstEnd>
-    ensures { Reads (spec.equations (texts scope.now.keys) (length tokens.old) [] tokens.old) result tokens.new }
+    ensures { Reads (spec.equations (texts scope.now.keys) (length tokens.old) [] tokens.old) result
+        tokens.new }
 {
     let mut found = List::new(alloc);
     for _turn in 0..tokens.count() {

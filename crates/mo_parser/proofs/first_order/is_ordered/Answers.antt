@@ -1,4 +1,4 @@
-use Rattle.std.proofs.Common.{◌≡◌, ◌∙◌, ◌<◌, Some, false, true, refl, length, sym, ap, arith, get_or}
+use Rattle.std.proofs.Common.{◌≡◌, ◌∙◌, ◌<◌, Some, false, true, refl, length, sym, ap, arith}
 use Rattle.std.specs.List.{list_all, slice_get}
 use Rattle.std.proofs.lemmas.Option.{slice_get_read}
 use Rattle.mo_parser.proofs.FirstOrdering.{none_told, place_told, readable_told, some_told, up_to-done, up_to-reached, up_to-ready, up_to-step}
