@@ -1,6 +1,6 @@
 //! Worked models: an assignment that meets each, its trace, and a changed one that does not meet it.
 //!
-//! Each function here is a law about the meaning of flat models; its body does nothing.
+//! Each function here is a law about the meaning of flat models; its body does nothing. The tests run whole commands.
 #![tactic(auto)]
 
 ghost use Rattle.clocked_rows.specs.Counter as counter;
@@ -10,6 +10,9 @@ ghost use Rattle.clocked_rows.specs.NoClock as no_clock;
 ghost use Rattle.clocked_rows.specs.Overflow as overflow;
 ghost use Rattle.clocked_rows.specs.Sampling as sampling;
 ghost use Rattle.clocked_rows.specs.ShiftAndHold as shift_and_hold;
+
+#[cfg(test)]
+mod tests;
 
 /// A counter on a clock of half a second is 1, 2 and 3 at the instants 0, 1/2 and 1, and does not stand still.
 #[tactic(auto, using(crate::proofs::Counter::instants, crate::proofs::Counter::met, crate::proofs::Counter::printed, crate::proofs::Counter::other_refused))]

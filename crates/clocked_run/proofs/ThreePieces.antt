@@ -1,0 +1,22 @@
+-- A line that is put in three pieces.
+use Rattle.std.proofs.Common.{◌≡◌, ap, sym, subst, ◌∙◌, ℕ, List, [], ◌++◌, Option, append_assoc, append-nil}
+use Rattle.outside_io.specs.Texts.{grown, GrewByPrefix}
+use Rattle.outside_io.proofs.Growth.{grown-nil, grown-grown}
+use Rattle.clocked_run.proofs.RowsLemmas.{GrewByPrefix-after}
+
+pub all_put : (a b c : List ℕ) (old one two three : Option (List ℕ)) → one ≡ grown a old → two ≡ grown b one → three ≡ grown c two → three ≡ grown (a ++ b ++ c) old
+all_put a b c old one two three first second third =
+    third ∙ ap (grown c) (second ∙ ap (grown b) first ∙ grown-grown a b old) ∙ grown-grown (a ++ b) c old
+
+pub first_failed : (a b c : List ℕ) (old one : Option (List ℕ)) → GrewByPrefix a old one → GrewByPrefix (a ++ b ++ c) old one
+first_failed a b c old one grew =
+    GrewByPrefix-after [] a (b ++ c) (a ++ b ++ c) old one (sym (append_assoc a b c)) (subst (λ o. GrewByPrefix a o one) (sym (grown-nil old)) grew)
+
+pub second_failed : (a b c : List ℕ) (old one two : Option (List ℕ)) → one ≡ grown a old → GrewByPrefix b one two → GrewByPrefix (a ++ b ++ c) old two
+second_failed a b c old one two first grew =
+    GrewByPrefix-after a b c (a ++ b ++ c) old two (sym (append_assoc a b c)) (subst (λ o. GrewByPrefix b o two) first grew)
+
+pub third_failed : (a b c : List ℕ) (old one two three : Option (List ℕ)) → one ≡ grown a old → two ≡ grown b one → GrewByPrefix c two three → GrewByPrefix (a ++ b ++ c) old three
+third_failed a b c old one two three first second grew =
+    GrewByPrefix-after (a ++ b) c [] (a ++ b ++ c) old three (ap (λ r. a ++ b ++ r) (append-nil c))
+    (subst (λ o. GrewByPrefix c o three) (second ∙ ap (grown b) first ∙ grown-grown a b old) grew)

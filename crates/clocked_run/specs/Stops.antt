@@ -1,0 +1,38 @@
+-- Why a command did not run to its stop, as a status and a line on err.
+use Rattle.std.specs.Prelude.{◌≡◌, ℕ, ◌⊎◌, List, [], ◌++◌, Option, codes}
+use Rattle.outside_io.specs.Counts.{Rose}
+use Rattle.outside_io.specs.Texts.{grown, GrewByPrefix}
+use Rattle.flat_model.specs.declared.clock.Moment.TheVariants.{At}
+use Rattle.flat_model.specs.declared.fault.FaultPlace.TheVariants.{Equation}
+use Rattle.clocked_run.specs.declared.status.Status.{Status}
+use Rattle.clocked_run.specs.declared.status.Status.TheVariants as ends
+use Rattle.clocked_run.specs.declared.stop.Stop.{Stop}
+use Rattle.clocked_run.specs.declared.stop.Stop.TheVariants.{Usage, Refused, Faulted, ReadFault, NoMemory, OutFailed}
+use Rattle.clocked_run.specs.Answer.{refusal_line, fault_line}
+use Rattle.clocked_run.specs.Lines.{usage_line}
+
+abbrev pub status_of : Stop → Status
+status_of (Usage fault) = ends.Usage
+status_of (Refused code) = ends.Refused
+status_of (Faulted kind at equation) = ends.Faulted
+status_of (ReadFault name) = ends.ReadFault
+status_of NoMemory = ends.NoMemory
+status_of OutFailed = ends.WriteFault
+
+abbrev pub line_of : Stop → List ℕ
+line_of (Usage fault) = usage_line fault
+line_of (Refused code) = refusal_line code
+line_of (Faulted kind at equation) = fault_line (At at) (Equation equation) kind
+line_of (ReadFault name) = codes "read fault: " ++ name.now ++ codes "\n"
+line_of NoMemory = codes "no memory\n"
+line_of OutFailed = []
+
+-- the line was put whole, or err failed in the midst of it
+abbrev pub PutsLine : Status → List ℕ → Status → Option (List ℕ) → Option (List ℕ) → ℕ → ℕ → Type 0
+PutsLine right line status old new before after =
+    ((status ≡ right) × (new ≡ grown line old)) ⊎ ((status ≡ ends.WriteFault) × Rose before after × GrewByPrefix line old new)
+
+-- what a report of a stop does to err, which nothing is put on behind a failure of out
+abbrev pub Reports : Stop → Status → Option (List ℕ) → Option (List ℕ) → ℕ → ℕ → Type 0
+Reports OutFailed status old new before after = (status ≡ ends.WriteFault) × (new ≡ old)
+Reports stop status old new before after = PutsLine (status_of stop) (line_of stop) status old new before after

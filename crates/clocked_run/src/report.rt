@@ -1,0 +1,81 @@
+ghost use Rattle.std.specs.Prelude.{◌≡◌, ◌≤◌, ◌++◌, ℕ, List, codes, length, OnOk, OnErr};
+ghost use Rattle.outside_io.specs.Counts.{Rose};
+ghost use Rattle.outside_io.specs.Texts.{grown, GrewByPrefix};
+ghost use Rattle.clocked_run.specs.Answer.{refusal_line};
+ghost use Rattle.clocked_run.specs.Lines.{usage_line};
+ghost use Rattle.clocked_run.specs.Stops.{PutsLine, Reports};
+
+use crate::code::Code;
+use crate::command::UsageFault;
+use crate::err_line::ErrLine;
+use crate::status::Status;
+use crate::stop::Stop;
+use outside_io::{Sink, WriteFailed, put_all};
+
+/// Puts the line of a stop on err, and gives the status.
+pub fn report<E: Sink>(stop: &Stop<'_>, err: &mut E) -> Status
+    ensures reports { Reports stop.now result (E.text err.old) (E.text err.new) (E.faults err.old) (E.faults err.new) }
+    ensures counts { E.faults err.old ≤ E.faults err.new }
+{
+    match stop {
+        Stop::Usage(fault) => put_line(err, Status::Usage, usage_text(*fault)),
+        Stop::Refused(code) => put_line(err, Status::Refused, refusal_text(*code)),
+        Stop::Faulted { kind, at, equation } => {
+            let line = ErrLine::fault(*kind, *at, *equation);
+            put_line(err, Status::Faulted, line.bytes())
+        }
+        Stop::ReadFault(name) => match put_read_fault(err, name) {
+            Ok(()) => Status::ReadFault,
+            Err(_) => Status::WriteFault,
+        },
+        Stop::NoMemory => put_line(err, Status::NoMemory, b"no memory\n"),
+        Stop::OutFailed => Status::WriteFault,
+    }
+}
+
+fn usage_text(fault: UsageFault) -> &'static [u8]
+    ensures { result.now ≡ usage_line fault }
+{
+    match fault {
+        UsageFault::Words => b"usage: words\n",
+        UsageFault::Stop => b"usage: --stop\n",
+    }
+}
+
+fn refusal_text(code: Code) -> &'static [u8]
+    ensures { result.now ≡ refusal_line code }
+{
+    match code {
+        Code::L0 => b"refused L0 at model\n",
+        Code::B0 => b"refused B0 at model\n",
+        Code::P1 => b"refused P1 at plan\n",
+    }
+}
+
+fn put_line<E: Sink>(err: &mut E, status: Status, line: &[u8]) -> Status
+    ensures puts { PutsLine status line.now result (E.text err.old) (E.text err.new) (E.faults err.old) (E.faults err.new) }
+    ensures counts { E.faults err.old ≤ E.faults err.new }
+{
+    match put_all(err, line) {
+        Ok(()) => status,
+        Err(_) => Status::WriteFault,
+    }
+}
+
+/// Puts the line of a read fault in three pieces, so that it takes no memory.
+fn put_read_fault<E: Sink>(err: &mut E, name: &str) -> Result<(), WriteFailed>
+    ensures ok { OnOk result (E.text err.new ≡ grown (codes "read fault: " ++ name.now ++ codes "\n") (E.text err.old)) }
+    ensures err { OnErr result (GrewByPrefix (codes "read fault: " ++ name.now ++ codes "\n") (E.text err.old) (E.text err.new)) }
+    ensures failed { OnErr result (Rose (E.faults err.old) (E.faults err.new)) }
+    ensures counts { E.faults err.old ≤ E.faults err.new }
+{
+    match put_all(err, b"read fault: ") {
+        Ok(()) => {}
+        Err(failed) => return Err(failed),
+    }
+    match put_all(err, name.as_bytes()) {
+        Ok(()) => {}
+        Err(failed) => return Err(failed),
+    }
+    put_all(err, b"\n")
+}

@@ -1,0 +1,144 @@
+ghost use Rattle.std.specs.Prelude.{◌≡◌, ◌≤◌, ◌⊎◌, ℕ, List, Ok, Err, IfOk, IfErr, length, map, string_bytes};
+ghost use Rattle.outside_io.specs.Counts.{Rose};
+ghost use Rattle.outside_io.specs.Files.{File, told, IsWhole};
+ghost use Rattle.mo_parser.specs.declared.first_model.FirstModel.{FirstModel};
+ghost use Rattle.mo_parser.specs.FirstText.{IsFirstText};
+ghost use Rattle.rational_time.specs.declared.ratio.Ratio.{Ratio};
+ghost use Rattle.clocked_run.specs.Command.{IsCommand, IsUsage};
+ghost use Rattle.clocked_run.specs.Ends.{EndsAs, IsComplete, IsRight, written};
+ghost use Rattle.clocked_run.specs.Readings.{AnswersAs, IsUnbuilt, IsUnread};
+
+use crate::code::Code;
+use crate::command::read_command;
+use crate::report::report;
+use crate::status::Status;
+use crate::stop::Stop;
+use crate::trace::trace;
+use mo_parser::{FirstEnd, FirstModel, parse_first};
+use outside_io::{Gate, ReadEnd, Shelf, Sink, read_whole};
+use std::alloc::Global;
+use std::thread::Threads;
+
+/// The most bytes of a model.
+const MODEL_LIMIT: u64 = 1_048_576;
+
+/// Carries out a command: `MODEL --stop T` runs the model of that name from the shelf up to the stop, and puts its
+/// trace on `out`; what keeps it from its end is put on `err` as one line.
+///
+/// All memory is taken before the header is put. The gate and the threads serve models of several base-clock
+/// partitions, which are not built yet.
+pub fn clocked_run<S: Shelf, O: Sink, E: Sink, G: Gate + Sync, R: Threads + Sync>(
+    rt: &R,
+    alloc: Global,
+    words: &[String],
+    shelf: &mut S,
+    out: &mut O,
+    err: &mut E,
+    gate: &G,
+) -> Status
+    ensures ends { EndsAs (IsRight (map string_bytes words.now) (told (S.held shelf.old) (S.gives_empty shelf.old)) (λ name. Rose (S.faults shelf.old name) (S.faults shelf.new name)))
+        (written (O.text out.old) (O.text out.new) (O.faults out.old) (O.faults out.new))
+        (written (E.text err.old) (E.text err.new) (E.faults err.old) (E.faults err.new)) result }
+
+    // Refused words are answered as such, unless their line was not put whole.
+    ensures usage { (line : List ℕ) → IsUsage (map string_bytes words.now) line → (result ≡ Status.Usage) ⊎ Rose (E.faults err.old) (E.faults err.new) }
+
+    // Where the words are a command, the file is told and no count rose, the call gives the answer, or memory was refused.
+    ensures complete { (model : List ℕ) (stop : Ratio) (bytes : List ℕ) → IsCommand (map string_bytes words.now) model stop
+        → told (S.held shelf.old) (S.gives_empty shelf.old) model ≡ File bytes → ¬ (Rose (S.faults shelf.old model) (S.faults shelf.new model))
+        → ¬ (Rose (O.faults out.old) (O.faults out.new)) → ¬ (Rose (E.faults err.old) (E.faults err.new))
+        → IsComplete (map string_bytes words.now) bytes (written (O.text out.old) (O.text out.new) (O.faults out.old) (O.faults out.new))
+        (written (E.text err.old) (E.text err.new) (E.faults err.old) (E.faults err.new)) result }
+
+    ensures counts { (O.faults out.old ≤ O.faults out.new) × (E.faults err.old ≤ E.faults err.new) × ((name : List ℕ) → S.faults shelf.old name ≤ S.faults shelf.new name) }
+    ensures holds { S.held shelf.new ≡ S.held shelf.old }
+    ensures flag { S.gives_empty shelf.new ≡ S.gives_empty shelf.old }
+{
+    let _rt = rt;
+    let _gate = gate;
+    carry_out(alloc, words, shelf, out, err)
+}
+
+/// Carries out a command on one thread.
+fn carry_out<S: Shelf, O: Sink, E: Sink>(
+    alloc: Global,
+    words: &[String],
+    shelf: &mut S,
+    out: &mut O,
+    err: &mut E,
+) -> Status
+    ensures ends { EndsAs (IsRight (map string_bytes words.now) (told (S.held shelf.old) (S.gives_empty shelf.old)) (λ name. Rose (S.faults shelf.old name) (S.faults shelf.new name)))
+        (written (O.text out.old) (O.text out.new) (O.faults out.old) (O.faults out.new))
+        (written (E.text err.old) (E.text err.new) (E.faults err.old) (E.faults err.new)) result }
+    ensures counts { (O.faults out.old ≤ O.faults out.new) × (E.faults err.old ≤ E.faults err.new) × ((name : List ℕ) → S.faults shelf.old name ≤ S.faults shelf.new name) }
+    ensures holds { S.held shelf.new ≡ S.held shelf.old }
+    ensures flag { S.gives_empty shelf.new ≡ S.gives_empty shelf.old }
+{
+    match answer(alloc, words, shelf, out) {
+        Ok(()) => Status::Done,
+        Err(stop) => report(&stop, err),
+    }
+}
+
+/// Carries out a command up to the line on err.
+fn answer<'a, S: Shelf, O: Sink>(
+    alloc: Global,
+    words: &'a [String],
+    shelf: &mut S,
+    out: &mut O,
+) -> Result<(), Stop<'a>>
+    ensures answers { AnswersAs (IsRight (map string_bytes words.entry.now) (told (S.held shelf.old) (S.gives_empty shelf.old)) (λ name. Rose (S.faults shelf.old name) (S.faults shelf.new name)))
+        (O.text out.old) (O.text out.new) result }
+    ensures failed { result ≡ Err Stop.OutFailed → Rose (O.faults out.old) (O.faults out.new) }
+    ensures counts { (O.faults out.old ≤ O.faults out.new) × ((name : List ℕ) → S.faults shelf.old name ≤ S.faults shelf.new name) }
+    ensures holds { S.held shelf.new ≡ S.held shelf.old }
+    ensures flag { S.gives_empty shelf.new ≡ S.gives_empty shelf.old }
+{
+    let command = match read_command(words) {
+        Ok(command) => command,
+        Err(fault) => return Err(Stop::Usage(fault)),
+    };
+    let bytes = match read_model(alloc, shelf, command.model) {
+        Ok(bytes) => bytes,
+        Err(stop) => return Err(stop),
+    };
+    let first = match first_model(alloc, bytes.as_slice()) {
+        Ok(first) => first,
+        Err(stop) => return Err(stop),
+    };
+    trace(alloc, &first, command.stop, out)
+}
+
+/// Reads the bytes of the model of a name.
+fn read_model<'a, S: Shelf>(
+    alloc: Global,
+    shelf: &mut S,
+    model: &'a str,
+) -> Result<Vec<u8>, Stop<'a>>
+    ensures whole { IfOk result (λ bytes. IsWhole (told (S.held shelf.old) (S.gives_empty shelf.old) model.entry.now) bytes.items) }
+    ensures within { IfOk result (λ bytes. length bytes.items ≤ 1048576) }
+    ensures unread { IfErr result (IsUnread (told (S.held shelf.old) (S.gives_empty shelf.old) model.entry.now) (Rose (S.faults shelf.old model.entry.now) (S.faults shelf.new model.entry.now)) model.entry.now) }
+    ensures counts { (name : List ℕ) → S.faults shelf.old name ≤ S.faults shelf.new name }
+    ensures holds { S.held shelf.new ≡ S.held shelf.old }
+    ensures flag { S.gives_empty shelf.new ≡ S.gives_empty shelf.old }
+{
+    match read_whole(alloc, shelf, model, MODEL_LIMIT) {
+        Ok(bytes) => Ok(bytes),
+        Err(ReadEnd::Failed) => Err(Stop::ReadFault(model)),
+        Err(ReadEnd::TooLong) => Err(Stop::Refused(Code::L0)),
+        Err(ReadEnd::NoMemory) => Err(Stop::NoMemory),
+    }
+}
+
+/// Reads a text of the first form.
+fn first_model(alloc: Global, bytes: &[u8]) -> Result<FirstModel, Stop<'static>>
+    requires { length bytes.now ≤ 1048576 }
+    ensures text { IfOk result (IsFirstText bytes.now) }
+    ensures unbuilt { IfErr result (IsUnbuilt bytes.now) }
+{
+    match parse_first(alloc, bytes) {
+        Ok(first) => Ok(first),
+        Err(FirstEnd::NotBuilt) => Err(Stop::Refused(Code::B0)),
+        Err(FirstEnd::NoMemory) => Err(Stop::NoMemory),
+    }
+}
