@@ -1,0 +1,11 @@
+pub mod KeywordLemmas
+pub mod Pieces
+pub mod Runs
+pub mod Numbers
+pub mod Quotes
+pub mod Comments
+pub mod Symbols
+pub mod Steps
+pub mod FirstBytes
+pub mod Apart
+pub mod Laws

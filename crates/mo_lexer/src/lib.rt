@@ -1,6 +1,15 @@
 //! Tokens of a model text.
 #![tactic(auto)]
 
+mod byte;
+mod fault;
+mod front;
+mod keyword;
+mod lexing;
+mod piece;
 mod token;
 
+pub use fault::{LexCode, LexEnd};
+pub use lexing::lex;
+pub use piece::Piece;
 pub use token::{Sym, Token, TokenKind, Word};

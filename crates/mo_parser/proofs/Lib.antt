@@ -1,0 +1,10 @@
+mod FirstTurns
+mod FirstNaming
+mod FirstSound
+mod FirstComplete
+mod FirstParts
+mod FirstGaps
+mod FirstOrdering
+mod FirstTokens
+mod FirstFacts
+mod FirstAnswer

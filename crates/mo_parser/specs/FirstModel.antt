@@ -1,5 +1,5 @@
 -- What holds of every model of the first form.
-use Rattle.std.specs.Prelude.{◌≡◌, ℕ, ℤ, pos, ◌<◌, ◌≤◌, ◌≤ℤ◌, ◌^◌, List, Some, length, slice_get, All, Contains}
+use Rattle.std.specs.Prelude.{◌≡◌, ℕ, ℤ, pos, ◌<◌, ◌≤◌, ◌≤ℤ◌, ◌^◌, List, Some, length, slice_get, All, Contains, codes}
 use Rattle.mo_parser.specs.declared.first_model.FirstModel.{FirstModel}
 use Rattle.mo_parser.specs.declared.first_model.FirstEq.{FirstEq}
 use Rattle.mo_parser.specs.declared.first_model.FirstTerm.TheVariants.{Number}
@@ -12,12 +12,17 @@ pub record IsFirstClock (model : FirstModel) : Type 0 where
   pub resolution_low : 1 ≤ model.resolution
   pub resolution_high : model.resolution < 2 ^ 31
 
--- names that are short and no two of which are equal, each with a start, in equations that can be taken in their order
+-- no two names are equal
+abbrev pub AreDistinct : List (List ℕ) → Type 0
+AreDistinct names = (x y : ℕ) (name : List ℕ) → slice_get names x ≡ Some name → slice_get names y ≡ Some name → x ≡ y
+
+-- names that are short, no two of them equal and none of them `time`, each with a start, in equations that can be taken in their order
 pub record IsFirstModel (model : FirstModel) : Type 0 where
   pub ordered : IsOrdered model
   pub starts : length model.starts ≡ length model.names
   pub few : length model.names ≤ 65536
   pub clock : IsFirstClock model
-  pub distinct : (x y : ℕ) (name : List ℕ) → slice_get model.names x ≡ Some name → slice_get model.names y ≡ Some name → x ≡ y
+  pub distinct : AreDistinct model.names
+  pub timeless : ¬ Contains model.names (codes "time")
   pub short : All (λ name. length name ≤ 128) model.names
   pub numbers : (i : ℕ) (e : FirstEq) (n : ℤ) → slice_get model.equations i ≡ Some e → Contains e.terms (Number n) → pos 0 ≤ℤ n

@@ -1,3 +1,4 @@
+use std::alloc::{AllocError, AllocFailed};
 use sync_values::{List, Text};
 
 /// A model of the first form: Integers with starts, and one clause on one rational clock.
@@ -30,4 +31,34 @@ pub enum FirstTerm {
     Read(u32),
     /// The value of a name at the tick before, or its start.
     Previous(u32),
+}
+
+/// Why a text gives no model of the first form.
+#[derive(Clone, Copy, Debug, PartialEq, Eq)]
+pub enum FirstEnd {
+    /// The text has not the form.
+    NotBuilt,
+    NoMemory,
+}
+
+impl From<AllocError> for FirstEnd {
+    ghost use Rattle.std.specs.Prelude.{◌≡◌};
+    ghost use Rattle.mo_parser.specs.declared.first_model.FirstEnd.{FirstEnd};
+
+    ghost from_gives = { λ _ e. e ≡ FirstEnd.NoMemory };
+
+    fn from(_: AllocError) -> FirstEnd {
+        FirstEnd::NoMemory
+    }
+}
+
+impl<T: Drop> From<AllocFailed<T>> for FirstEnd {
+    ghost use Rattle.std.specs.Prelude.{◌≡◌};
+    ghost use Rattle.mo_parser.specs.declared.first_model.FirstEnd.{FirstEnd};
+
+    ghost from_gives = { λ _ e. e ≡ FirstEnd.NoMemory };
+
+    fn from(_: AllocFailed<T>) -> FirstEnd {
+        FirstEnd::NoMemory
+    }
 }

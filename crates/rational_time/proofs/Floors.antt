@@ -1,5 +1,7 @@
 -- Floors of quotients and of products.
-use Rattle.std.proofs.Common.{◌≡◌, ap, ℕ, ◌+◌, ◌*◌, ◌/◌, ◌%◌, ◌<◌, ◌≤◌, arith, mod-lt, div-add-mod', lt_of_mul-lt-mul_right, mul-le-mul_right}
+use Rattle.std.specs.Result.{OkIff, result_ok}
+use Rattle.std.proofs.Math.Nat.{mul-mod_left, div-eq_of_eq-mul_left}
+use Rattle.std.proofs.Common.{Result, Ok, Err, IsNone, ◌↔◌, ◌^◌, refl, sym, subst, ◌≡◌, ap, ℕ, ◌+◌, ◌*◌, ◌/◌, ◌%◌, ◌<◌, ◌≤◌, arith, mod-lt, div-add-mod', lt_of_mul-lt-mul_right, mul-le-mul_right}
 use Rattle.rational_time.specs.Fraction.{IsFloor}
 
 -- a quotient is a floor
@@ -27,3 +29,18 @@ floor_bounds n d f x p h le =
 
 pub floor_bounded : (n d f x : ℕ) → IsFloor n d f → x ≤ f → x * d ≤ n
 floor_bounded n d f x h le = omega (arith, mul-le-mul_right d le, h.0)
+
+-- a product that is no multiple of v is no number of units
+pub no_units : (product v n : ℕ) → (product % v ≡ 0 → ⊥) → n * v ≡ product → ⊥
+no_units product v n uneven e = uneven (subst (λ x. x % v ≡ 0) e (mul-mod_left n v))
+
+-- the number of units of a multiple of v, where it fits
+pub units_none : {E : Type 0} (product v : ℕ) (r : Result ℕ E) → 0 < v → product % v ≡ 0 → OkIff r (product / v < 2 ^ 64) (product / v) →
+    IsNone (result_ok r) ↔ ((n : ℕ) → n * v ≡ product → 2 ^ 64 ≤ n)
+units_none product v (Ok x) p even h = (λ e. absurd cc, λ large. absurd (omega (arith, h.0, large (product / v) (omega (arith, even, div-add-mod' product v)))))
+units_none product v (Err e) p even h = (
+  λ _ n e.
+      let same : product / v ≡ n = div-eq_of_eq-mul_left {n = v} {m = product} {k = n} p (sym e) in
+      let large : product / v < 2 ^ 64 → ⊥ = h in omega arith,
+  λ _. refl,
+)

@@ -1,9 +1,11 @@
 -- Fractions in lowest terms: how they come from any fraction, and that there is only one.
-use Rattle.std.proofs.Common.{◌≡◌, subst, ap, ℕ, zero, suc, ◌*◌, ◌/◌, ◌<◌, arith, ⊎_elim}
+use Rattle.std.proofs.Common.{◌≡◌, subst, ap, ℕ, zero, suc, ◌*◌, ◌/◌, ◌<◌, ◌≤◌, arith, inl, inr, ⊎_elim}
 use Rattle.std.specs.Int.{IsGcd, ◌∣◌}
-use Rattle.std.proofs.Math.Nat.{one-dvd, dvd_of_mul-dvd-mul_right, mul-dvd-mul_right, div-mul_cancel, pos_of_dvd_of_pos, eq_of_mul-eq-mul_right}
+use Rattle.std.proofs.Math.Nat.{one-dvd, dvd_of_mul-dvd-mul_right, mul-dvd-mul_right, div-mul_cancel, pos_of_dvd_of_pos, eq_of_mul-eq-mul_right, ∣_prop}
 use Rattle.std.proofs.lemmas.Nat.Gcd.{IsGcd-swap, dvd_antisymm}
-use Rattle.rational_time.specs.Fraction.{IsLowest, Exceeds}
+use Rattle.std.proofs.Math.Logic.{∥∥₁_elim}
+use Rattle.rational_time.specs.declared.ratio.Ratio.{Ratio}
+use Rattle.rational_time.specs.Fraction.{IsFraction, IsLowest, Exceeds}
 use Rattle.rational_time.proofs.Divisors.{dvd_from, dvd_of_coprime}
 
 times : (x y g a b : ℕ) → x * g ≡ a → y * g ≡ b → x * b ≡ a * y
@@ -64,3 +66,19 @@ below_limits a b n d p q h l f g (r, s, m, over) =
 -- the quotients by the greatest common divisor, under other names, are in lowest terms
 pub lowest_of : (n d g p q : ℕ) → 0 < d → IsGcd n d g → p ≡ n / g → q ≡ d / g → IsLowest p q n d
 lowest_of n d g p q h k a b = rw (a, b) (lowest_quotients n d g h k)
+
+-- a greatest common divisor is one in one way
+pub IsGcd-prop : (a b g : ℕ) → IsProp (IsGcd a b g)
+IsGcd-prop a b g = hlevel ∣_prop
+
+-- the parts of a ratio have no common divisor
+pub IsGcd-ratio : (r : Ratio) → IsGcd r.num r.den 1
+IsGcd-ratio r = ∥∥₁_elim r.lowest (IsGcd-prop r.num r.den 1) (λ h. h)
+
+-- a ratio of the value n/d is n/d in lowest terms
+pub IsLowest-ratio : (r : Ratio) (n d : ℕ) → IsFraction r n d → IsLowest r.num r.den n d
+IsLowest-ratio r n d e = record { positive = r.positive; same = e; lowest = IsGcd-ratio r }
+
+-- what exceeds limits exceeds lower ones
+pub exceeds_lower : (a b x y n d : ℕ) → x ≤ a → y ≤ b → Exceeds a b n d → Exceeds x y n d
+exceeds_lower a b x y n d p q (r, s, l, over) = (r, s, l, ⊎_elim (λ h. inl (omega arith)) (λ h. inr (omega arith)) over)

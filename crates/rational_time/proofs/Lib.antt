@@ -1,4 +1,9 @@
+pub mod Counting
 pub mod Divisors
 pub mod Floors
 pub mod Fractions
-pub mod Counting
+pub mod Meetings
+pub mod Multiples
+pub mod Order
+pub mod Signs
+pub mod TimeTexts

@@ -53,6 +53,10 @@ IsTick period start k t = t.num * (start.den * period.den) ≡ (start.num * peri
 abbrev pub IsTickWithin : Ratio → Ratio → ℕ → Ratio → Type 0
 IsTickWithin period start k stop = (start.num * period.den + k * period.num * start.den) * stop.den ≤ stop.num * (start.den * period.den)
 
+-- tick i of the clock p, s is at the instant of tick j of the clock q, r: s + i*p = r + j*q
+abbrev pub IsSameTick : Ratio → Ratio → ℕ → Ratio → Ratio → ℕ → Type 0
+IsSameTick p s i q r j = (s.num * p.den + i * p.num * s.den) * (r.den * q.den) ≡ (r.num * q.den + j * q.num * r.den) * (s.den * p.den)
+
 -- the printed form of an instant: n where the denominator is 1, else n/d
 abbrev pub instant_text : Ratio → List ℕ
 instant_text t = if t.den == 1 then decimal t.num else decimal t.num ++ codes "/" ++ decimal t.den

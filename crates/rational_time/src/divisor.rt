@@ -1,4 +1,6 @@
+ghost use Rattle.std.specs.Prelude.{ℕ, ◌<◌, ◌≤◌, ◌^◌, ◌↔◌, IfSome, IsNone};
 ghost use Rattle.std.specs.Int.{IsGcd};
+ghost use Rattle.rational_time.specs.Multiple.{IsLcm};
 
 /// The greatest common divisor, which is 0 for 0 and 0.
 pub fn gcd(a: u64, b: u64) -> u64
@@ -12,6 +14,17 @@ pub fn gcd(a: u64, b: u64) -> u64
         rest = next;
     }
     divisor
+}
+
+/// The least common multiple. None comes exactly where it does not fit 64 bits.
+pub fn lcm(a: u64, b: u64) -> Option<u64>
+    requires first { 0 < a }
+    requires second { 0 < b }
+    ensures multiple { IfSome result (λ m. IsLcm a b m) }
+    ensures none { IsNone result ↔ ((m : ℕ) × IsLcm a b m × (2 ^ 64 ≤ m)) }
+{
+    let divisor = gcd(a, b);
+    (a / divisor).checked_mul(b)
 }
 
 /// The greatest common divisor of two wide numbers.

@@ -1,6 +1,6 @@
 use Rattle.std.proofs.Common.{refl, arith, rules, ◌<◌, ◌*◌, ◌+◌, ◌/◌, ◌%◌, ◌^◌}
 use Rattle.rational_time.proofs.Floors.{IsFloor-product, floor_below}
-use Rattle.rational_time.proofs.ticks.floor_of_product.Goals as goal
+use Rattle.rational_time.proofs.floor.floor_of_product.Goals as goal
 
 pub overflow_mul-result : goal.overflow_mul-result
 overflow_mul-result c =

@@ -1,0 +1,52 @@
+-- The interval and the first tick of a clock.
+use Rattle.std.proofs.Common.{◌≡◌, refl, ℕ, zero, suc, Some, None, lit<, arith, pos, inl, inr, slice_get, true, false}
+use Rattle.std.proofs.lemmas.Fmt.{decimal_digit, decimal_step}
+use Rattle.sync_values.specs.declared.value.Value.TheVariants as value
+use Rattle.flat_model.proofs.Values.{values}
+use Rattle.rational_time.specs.declared.ratio.Ratio.{Ratio}
+use Rattle.rational_time.specs.Fraction.{Same, AtMost}
+use Rattle.clocked_rows.specs.Instants.{three_halves}
+use Rattle.clocked_rows.specs.Interval as row
+use Rattle.clocked_rows.proofs.Listed.{Among, Cause, are_instants}
+use Rattle.clocked_rows.proofs.Each.{met_at, differ}
+
+pub printed : row.IsPrinted
+printed = rw (
+  decimal_step 1500 (omega arith) (lit< tt),
+  decimal_step 150 (omega arith) (lit< tt),
+  decimal_step 15 (omega arith) (lit< tt),
+  decimal_digit 0 (lit< tt),
+  decimal_digit 1 (lit< tt),
+  decimal_digit 2 (lit< tt),
+  decimal_digit 3 (lit< tt),
+)
+
+others : (m x : ℕ) → slice_get row.setting.model.names x ≡ None → row.values x m ≡ None
+others m zero h = absurd cc
+others m (suc zero) h = absurd cc
+others m (suc (suc x)) h = refl
+
+pub met : row.IsMet
+met zero le = met_at row.setting row.values 0 ((tt, refl), ((tt, refl), tt)) (others 0) tt (tt, (tt, tt))
+met (suc zero) le = met_at row.setting row.values 1
+    ((tt, (value.Int (pos 1500), refl, tt)), ((tt, (value.Bool true, refl, tt)), tt)) (others 1) tt
+    ((value.Int (pos 1500), simp values, simp values), ((value.Bool true, simp values, simp values), tt))
+met (suc (suc zero)) le = met_at row.setting row.values 2
+    ((tt, (value.Int (pos 1500), refl, tt)), ((tt, (value.Bool false, refl, tt)), tt)) (others 2) tt
+    ((value.Int (pos 1500), simp values, simp values), ((value.Bool false, simp values, simp values), tt))
+met (suc (suc (suc m))) le = absurd (omega arith)
+
+listed : (t : Ratio) → AtMost t three_halves → Cause row.setting.clocking.clocks row.setting.table.times three_halves row.setting.instants t → Among (Same t) row.setting.instants
+listed t within (inl first) = inl (omega (arith, first))
+listed t within (inr (inl (inl first))) = inl first
+listed t within (inr (inl (inr none))) = absurd none
+listed t within (inr (inr (inl (zero, tick)))) = inl (omega (arith, tick))
+listed t within (inr (inr (inl (suc zero, tick)))) = inr (inl (omega (arith, tick)))
+listed t within (inr (inr (inl (suc (suc k), tick)))) = absurd (omega (arith, tick, within, t.positive))
+listed t within (inr (inr (inr none))) = absurd none
+
+pub instants : row.HasInstants
+instants = are_instants _ _ _ _ (omega arith, tt) ((omega arith, inl refl), ((omega arith, inr (inr (inl (1, refl)))), tt)) listed
+
+pub other_refused : row.IsOtherRefused
+other_refused h = differ _ _ (Some 0) _ (value.Int (pos 0)) (value.Int (pos 1500)) (simp values) (simp values) (λ e. absurd cc) (h.equations 0 _ refl refl)

@@ -1,0 +1,49 @@
+-- The sample of an input.
+use Rattle.std.proofs.Common.{◌≡◌, refl, ℕ, zero, suc, None, lit<, arith, pos, inl, inr, slice_get}
+use Rattle.std.proofs.lemmas.Fmt.{decimal_digit}
+use Rattle.sync_values.specs.declared.value.Value.TheVariants as value
+use Rattle.rational_time.specs.declared.ratio.Ratio.{Ratio}
+use Rattle.rational_time.specs.Fraction.{Same, AtMost}
+use Rattle.flat_model.proofs.Values.{values}
+use Rattle.clocked_rows.specs.Instants.{whole}
+use Rattle.clocked_rows.specs.Sampling as row
+use Rattle.clocked_rows.proofs.Listed.{Among, Cause, are_instants}
+use Rattle.clocked_rows.proofs.Each.{met_at, differ}
+
+pub printed : row.IsPrinted
+printed = rw (decimal_digit 0 (lit< tt), decimal_digit 1 (lit< tt), decimal_digit 2 (lit< tt), decimal_digit 5 (lit< tt), decimal_digit 7 (lit< tt))
+
+others : (m x : ℕ) → slice_get row.setting.model.names x ≡ None → row.values x m ≡ None
+others m zero h = absurd cc
+others m (suc zero) h = absurd cc
+others m (suc (suc x)) h = refl
+
+pub met : row.IsMet
+met zero le = met_at row.setting row.values 0
+    ((refl, (value.Int (pos 5), refl, tt)), ((tt, refl), tt)) (others 0) tt (tt, tt)
+met (suc zero) le = met_at row.setting row.values 1
+    ((refl, (value.Int (pos 5), refl, tt)), ((tt, (value.Int (pos 5), refl, tt)), tt)) (others 1) tt ((value.Int (pos 5), simp values, simp values), tt)
+met (suc (suc zero)) le = met_at row.setting row.values 2
+    ((refl, (value.Int (pos 7), refl, tt)), ((tt, (value.Int (pos 5), refl, tt)), tt)) (others 2) tt ((value.Int (pos 5), simp values, simp values), tt)
+met (suc (suc (suc zero))) le = met_at row.setting row.values 3
+    ((refl, (value.Int (pos 7), refl, tt)), ((tt, (value.Int (pos 7), refl, tt)), tt)) (others 3) tt ((value.Int (pos 7), simp values, simp values), tt)
+met (suc (suc (suc (suc m)))) le = absurd (omega arith)
+
+listed : (t : Ratio) → AtMost t (whole 2) → Cause row.setting.clocking.clocks row.setting.table.times (whole 2) row.setting.instants t → Among (Same t) row.setting.instants
+listed t within (inl first) = inl (omega (arith, first))
+listed t within (inr (inl (inl first))) = inl first
+listed t within (inr (inl (inr (inl second)))) = inr (inl second)
+listed t within (inr (inl (inr (inr none)))) = absurd none
+listed t within (inr (inr (inl (zero, tick)))) = inl (omega (arith, tick))
+listed t within (inr (inr (inl (suc zero, tick)))) = inr (inl (omega (arith, tick)))
+listed t within (inr (inr (inl (suc (suc zero), tick)))) = inr (inr (inl (omega (arith, tick))))
+listed t within (inr (inr (inl (suc (suc (suc k)), tick)))) = absurd (omega (arith, tick, within, t.positive))
+listed t within (inr (inr (inr none))) = absurd none
+
+pub instants : row.HasInstants
+instants = are_instants _ _ _ _ (omega arith, (omega arith, tt))
+    ((omega arith, inl refl), ((omega arith, inr (inr (inl (1, refl)))), ((omega arith, inr (inr (inl (2, refl)))), tt)))
+    listed
+
+pub other_refused : row.IsOtherRefused
+other_refused h = differ _ _ None _ (value.Int (pos 7)) (value.Int (pos 5)) (simp values) (simp values) (λ e. absurd cc) (h.equations 0 _ refl refl)

@@ -1,0 +1,7 @@
+use Rattle.std.proofs.Common.{subst, List, Some}
+use Rattle.mo_lexer.specs.Front.{EndsText}
+use Rattle.mo_lexer.proofs.Quotes.{quoted_text}
+use Rattle.mo_lexer.proofs.front.quoted.Goals as goal
+
+pub returns-in-Some : goal.returns-in-Some
+returns-in-Some c = quoted_text c.args.text.now c.in-Some.at c.requires.some c.requires.quote (subst (λ (z : List _). EndsText z (Some c.in-Some.at)) c.rest_from.ensures c.in-Some.ensures)

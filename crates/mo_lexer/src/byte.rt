@@ -1,0 +1,39 @@
+//! What a byte may be part of.
+ghost use Rattle.std.specs.Prelude.{◌≡◌};
+ghost use Rattle.mo_lexer.specs.Bytes.{is_separator, is_letter, is_digit, is_word_byte, is_in_line, is_exponent_letter};
+
+pub(crate) fn separator(byte: u8) -> bool
+    ensures { result ≡ is_separator byte }
+{
+    matches!(byte, b' ' | b'\t' | b'\n' | b'\r')
+}
+
+pub(crate) fn letter(byte: u8) -> bool
+    ensures { result ≡ is_letter byte }
+{
+    byte.is_ascii_alphabetic() || byte == b'_'
+}
+
+pub(crate) fn digit(byte: u8) -> bool
+    ensures { result ≡ is_digit byte }
+{
+    byte.is_ascii_digit()
+}
+
+pub(crate) fn word_byte(byte: u8) -> bool
+    ensures { result ≡ is_word_byte byte }
+{
+    letter(byte) || digit(byte)
+}
+
+pub(crate) fn in_line(byte: u8) -> bool
+    ensures { result ≡ is_in_line byte }
+{
+    byte != b'\n'
+}
+
+pub(crate) fn exponent_letter(byte: u8) -> bool
+    ensures { result ≡ is_exponent_letter byte }
+{
+    byte == b'e' || byte == b'E'
+}

@@ -1,0 +1,286 @@
+ghost use Rattle.std.specs.Prelude.{◌≡◌, ◌<◌, ◌*◌, ◌^◌, [], ◌∷◌};
+ghost use Rattle.rational_time.specs.Fraction.{ArePartsBelow};
+ghost use Rattle.rational_time.specs.Multiple.{HasMultipleBelow};
+
+use super::*;
+use std::cmp::Ordering;
+use std::process::Abort;
+use std::test::Fail;
+
+type Parts = (u64, u64);
+
+fn ratio(rt: &impl Abort, parts: Parts) -> Ratio {
+    assert!(rt; parts.1 > 0);
+    make(parts.0, parts.1)
+}
+
+/// A fraction whose parts are below 2^40.
+fn short(rt: &impl Abort, parts: Parts) -> Ratio
+    ensures { ArePartsBelow (2 ^ 40) result }
+{
+    let a = ratio(rt, parts);
+    assert!(rt; a.num() < 1 << 40);
+    assert!(rt; a.den() < 1 << 40);
+    a
+}
+
+/// A fraction whose numerator is not 0 and whose parts are below 2^40.
+fn period(rt: &impl Abort, parts: Parts) -> Ratio
+    ensures parts { ArePartsBelow (2 ^ 40) result }
+    ensures rising { 0 < result.num }
+{
+    let a = short(rt, parts);
+    assert!(rt; a.num() > 0);
+    a
+}
+
+/// A fraction below 2^20 with a denominator below 2^40.
+fn instant(rt: &impl Abort, parts: Parts) -> Ratio
+    ensures value { result.num < 2 ^ 20 * result.den }
+    ensures grain { result.den < 2 ^ 40 }
+{
+    let a = ratio(rt, parts);
+    assert!(rt; u128::from(a.num()) < (1 << 20) * u128::from(a.den()));
+    assert!(rt; a.den() < 1 << 40);
+    a
+}
+
+fn parts(a: Ratio) -> Parts {
+    (a.num(), a.den())
+}
+
+#[test]
+fn fractions_are_exact(rt: HostRuntime) {
+    for (a, b, wanted) in [
+        ((1, 3), (1, 6), Some((1, 2))),
+        (
+            (1, 4_294_967_291),
+            (1, 4_294_967_279),
+            Some((8_589_934_570, 18_446_743_979_220_271_189)),
+        ),
+        ((1, 4_294_967_311), (1, 4_294_967_357), None),
+    ] {
+        let a = ratio(&rt, a);
+        let b = ratio(&rt, b);
+        assert!(rt; a.num() < 1 << 62 && b.num() < 1 << 62);
+        assert!(rt; a.den() < 1 << 62 && b.den() < 1 << 62);
+        assert_eq!(rt; plus(a, b).map(parts), wanted);
+    }
+    for (a, times, over, wanted) in [
+        ((2, 3), 3, 4, Some((1, 2))),
+        ((u64::MAX, 1), 2, 2, Some((u64::MAX, 1))),
+        ((u64::MAX, 1), 2, 1, None),
+        ((5, 3), 0, 7, Some((0, 1))),
+    ] {
+        assert!(rt; over > 0);
+        assert_eq!(rt; scaled(ratio(&rt, a), times, over).map(parts), wanted);
+    }
+    for (a, b, wanted) in [
+        ((1, 3), (2, 5), Ordering::Less),
+        ((2, 6), (1, 3), Ordering::Equal),
+        (
+            (u64::MAX, u64::MAX - 1),
+            (u64::MAX - 1, u64::MAX - 2),
+            Ordering::Less,
+        ),
+        ((2, 1), (3, 2), Ordering::Greater),
+    ] {
+        assert_eq!(rt; compare(ratio(&rt, a), ratio(&rt, b)), wanted);
+    }
+    for (a, b, divisor) in [(0, 0, 0), (0, 7, 7), (12, 18, 6), (u64::MAX, 1, 1)] {
+        assert_eq!(rt; gcd(a, b), divisor);
+    }
+    for (a, b, multiple) in [
+        (4, 6, Some(12)),
+        (u64::MAX, u64::MAX, Some(u64::MAX)),
+        (1 << 63, 3, None),
+    ] {
+        assert!(rt; a > 0 && b > 0);
+        assert_eq!(rt; lcm(a, b), multiple);
+    }
+}
+
+#[test]
+fn times_are_read_and_written(rt: HostRuntime) -> Result<(), Fail> {
+    const MALFORMED: Result<Parts, RatioFault> = Err(RatioFault::Malformed);
+    const TOO_FINE: Result<Parts, RatioFault> = Err(RatioFault::TooFine);
+    for (text, wanted) in [
+        ("0", Ok((0, 1))),
+        ("01", Ok((1, 1))),
+        ("3/2", Ok((3, 2))),
+        ("6/4", Ok((3, 2))),
+        ("0.6", Ok((3, 5))),
+        ("0.000000001", Ok((1, 1_000_000_000))),
+        ("1048576", Ok((1_048_576, 1))),
+        ("999999999999999999", Ok((999_999_999_999_999_999, 1))),
+        ("2/8589934590", Ok((1, 4_294_967_295))),
+        ("230584300921369394.8", Ok((1_152_921_504_606_846_974, 5))),
+        ("1/4294967296", TOO_FINE),
+        ("230584300921369395.2", TOO_FINE),
+        ("", MALFORMED),
+        ("1/0", MALFORMED),
+        ("0.0000000001", MALFORMED),
+        ("1000000000000000000", MALFORMED),
+        ("1.", MALFORMED),
+        (".5", MALFORMED),
+        ("/2", MALFORMED),
+        ("-1", MALFORMED),
+        (" 1", MALFORMED),
+        ("1/2/3", MALFORMED),
+        ("1.5/2", MALFORMED),
+        ("1e3", MALFORMED),
+    ] {
+        assert_eq!(rt; read(text.as_bytes()).map(parts), wanted, "at {text}");
+    }
+    for (a, text) in [((6, 4), "3/2"), ((7, 1), "7"), ((0, 9), "0")] {
+        let written = format!(in rt.alloc(); "{}", ratio(&rt, a))?;
+        assert_eq!(rt; written.as_str(), text);
+    }
+    Ok(())
+}
+
+#[test]
+fn floors_and_grids(rt: HostRuntime) {
+    for (a, k, wanted) in [((7, 2), 3, 10), ((1, 3), 2, 0), ((1, 3), 3, 1)] {
+        assert_eq!(rt; floor_times(ratio(&rt, a), k), wanted);
+    }
+    for (from, to, k, wanted) in [
+        ((1, 3), (5, 2), 6, 13),
+        ((1, 3), (1, 2), 5, 0),
+        ((1, 2), (1, 2), 9, 0),
+        ((0, 1), (1_048_575, 1), u32::MAX, 4_503_595_331_354_625),
+    ] {
+        let from = instant(&rt, from);
+        let to = instant(&rt, to);
+        let left = u128::from(from.num()) * u128::from(to.den());
+        assert!(rt; left <= u128::from(to.num()) * u128::from(from.den()));
+        assert_eq!(rt; floor_between(from, to, k), wanted);
+    }
+    for (value, den, wanted) in [
+        ((3, 2), 4, Some(6)),
+        ((1, 3), 4, None),
+        ((u64::MAX, 1), 2, None),
+        ((0, 1), 5, Some(0)),
+    ] {
+        assert!(rt; den > 0);
+        assert_eq!(rt; on_grid(ratio(&rt, value), den), wanted);
+    }
+}
+
+#[test]
+fn starts_are_moved(rt: HostRuntime) {
+    let wide = (1, (1 << 40) - 1);
+    for (start, negative, step, k, r, back, wanted) in [
+        ((1, 2), false, (1, 3), 1, 1, false, Some((5, 6, false))),
+        ((1, 2), false, (1, 3), 2, 1, true, Some((1, 6, true))),
+        ((1, 2), true, (1, 2), 1, 1, false, Some((0, 1, false))),
+        ((1, 2), true, (1, 3), 3, 2, true, Some((1, 1, true))),
+        ((0, 1), true, (1, 3), 0, 2, true, Some((0, 1, false))),
+        (wide, false, (1, (1 << 40) - 3), 1, 1, false, None),
+    ] {
+        assert!(rt; r > 0);
+        let result = moved(short(&rt, start), negative, short(&rt, step), k, r, back);
+        assert_eq!(rt;
+            result.map(|m| (m.start.num(), m.start.den(), m.negative)),
+            wanted
+        );
+    }
+}
+
+#[test]
+fn ticks_are_counted(rt: HostRuntime) {
+    for (step, start, stop, wanted) in [
+        ((1, 10), (0, 1), (1, 1), 11),
+        ((1, 10), (1, 20), (1, 1), 10),
+        ((1, 10), (2, 1), (1, 1), 0),
+        ((3, 1), (0, 1), (0, 1), 1),
+        ((2, 3), (1, 2), (5, 2), 4),
+        (
+            (1, (1 << 40) - 1),
+            (0, 1),
+            (1_048_575, 1),
+            1_152_920_405_094_170_626,
+        ),
+    ] {
+        let count = ticks_until(period(&rt, step), short(&rt, start), instant(&rt, stop));
+        assert_eq!(rt; count, wanted);
+    }
+}
+
+/// Asserts that the denominators have a multiple below 2^40.
+fn assert_grain(rt: &impl Abort, p: Ratio, s: Ratio, q: Ratio, r: Ratio)
+    ensures { HasMultipleBelow (2 ^ 40) (p.den ∷ s.den ∷ q.den ∷ r.den ∷ []) }
+{
+    let first = lcm(p.den, s.den).expect(rt, "a multiple of 64 bits");
+    let second = lcm(q.den, r.den).expect(rt, "a multiple of 64 bits");
+    assert!(rt; first > 0);
+    assert!(rt; second > 0);
+    let grain = lcm(first, second).expect(rt, "a multiple of 64 bits");
+    assert!(rt; grain > 0);
+    assert!(rt; grain < 1 << 40);
+}
+
+fn share(rt: &impl Abort, p: Parts, s: Parts, q: Parts, r: Parts) -> bool {
+    let p = period(rt, p);
+    let s = short(rt, s);
+    let q = period(rt, q);
+    let r = short(rt, r);
+    assert_grain(rt, p, s, q, r);
+    share_instant(p, s, q, r)
+}
+
+#[test]
+fn clocks_share_instants(rt: HostRuntime) {
+    let wide = (1 << 40) - 1;
+    for (p, s, q, r, wanted) in [
+        // first at 1252/2003, tick 1252 of the one and 1257 of the other
+        ((1, 2003), (0, 1), (1, 2011), (1, 4_028_033), true),
+        ((2, 1001), (0, 1), (2, 1003), (1, 1001), false),
+        ((1, 2), (1, 3), (1, 2), (1, 3), true),
+        ((1, 1), (0, 1), (1, 1), (5, 1), true),
+        ((1, 10), (0, 1), (3, 10), (1, 10), true),
+        ((1, 10), (0, 1), (3, 10), (1, 20), false),
+        ((2, 1), (0, 1), (3, 1), (1, 2), false),
+        ((1, 3), (7, 1), (1, 2), (0, 1), true),
+        ((wide, 1), (0, 1), (wide - 1, 1), (1, 1), true),
+        ((1, wide), (0, 1), (2, wide), (1, wide), true),
+        ((2, wide), (0, 1), (2, wide), (1, wide), false),
+    ] {
+        assert_eq!(rt;
+            share(&rt, p, s, q, r),
+            wanted,
+            "at {p:?} {s:?} {q:?} {r:?}"
+        );
+    }
+}
+
+/// Whether one of the first 20 ticks of `s/3 + i*p/2` is one of the first 20 of `r/2 + j*q/3`.
+fn meet_early(p: u64, s: u64, q: u64, r: u64) -> bool
+    requires p { p < 8 }
+    requires s { s < 8 }
+    requires q { q < 8 }
+    requires r { r < 8 }
+{
+    for i in 0..20 {
+        for j in 0..20 {
+            if 2 * s + 3 * p * i == 3 * r + 2 * q * j {
+                return true;
+            }
+        }
+    }
+    false
+}
+
+#[test]
+fn shared_instants_are_those_of_the_definition(rt: HostRuntime) {
+    for p in 1..4 {
+        for s in 0..4 {
+            for q in 1..4 {
+                for r in 0..4 {
+                    let shared = share(&rt, (p, 2), (s, 3), (q, 3), (r, 2));
+                    assert_eq!(rt; shared, meet_early(p, s, q, r), "at {p} {s} {q} {r}");
+                }
+            }
+        }
+    }
+}
