@@ -1,0 +1,53 @@
+#!/usr/bin/env python3
+"""Writes a large model of the first form: a chain of names, each of which reads the one before it.
+
+    generate.py [--names N] > FILE
+
+The first name counts ticks, and every other one has its value. The names are the shortest that there are, since a
+declaration and an equation of three-letter names take 20 bytes: some 52,900 names fill the 1,048,576 bytes that a
+model may have.
+"""
+
+import argparse
+import itertools
+import string
+import sys
+
+MODEL_LIMIT = 1_048_576
+FIRST_BYTES = string.ascii_letters + "_"
+LATER_BYTES = FIRST_BYTES + string.digits
+# The keywords of at most three letters.
+KEYWORDS = {"if", "in", "or", "and", "der", "end", "for", "not"}
+
+
+def short_names():
+    """All names that are no keywords, shortest first."""
+    for length in itertools.count(1):
+        for parts in itertools.product(FIRST_BYTES, *[LATER_BYTES] * (length - 1)):
+            name = "".join(parts)
+            if name not in KEYWORDS:
+                yield name
+
+
+def model_text(count):
+    names = list(itertools.islice(short_names(), count))
+    declarations = "".join(f"Integer {name};" for name in names)
+    chain = "".join(f"{name}={before};" for before, name in itertools.pairwise(names))
+    counter = f"{names[0]}=previous({names[0]})+1;"
+    return f"model Chain {declarations}equation when Clock(1)then {counter}{chain}end when;end Chain;\n"
+
+
+def main():
+    parser = argparse.ArgumentParser(description="Writes a chain of names as a model.")
+    parser.add_argument("--names", type=int, default=52_900)
+    count = parser.parse_args().names
+    if count < 1:
+        sys.exit("generate.py: a chain has at least one name")
+    text = model_text(count)
+    if len(text) > MODEL_LIMIT:
+        sys.exit(f"generate.py: {count} names take {len(text)} bytes, and a model may have {MODEL_LIMIT}")
+    sys.stdout.write(text)
+
+
+if __name__ == "__main__":
+    main()
