@@ -1,3 +1,5 @@
+ghost use Rattle.std.specs.Prelude.{◌≤◌, ◌<◌, ◌^◌, IfOk, length};
+
 use clocked_run::{Status, clocked_run};
 use outside_io::{MemShelf, MemSink, OpenGate};
 use std::alloc::{AllocError, Global};
@@ -201,12 +203,21 @@ fn closed_outputs_are_write_faults(rt: HostRuntime) -> Result<(), Fail> {
     Ok(())
 }
 
+/// Some spaces, and the model behind them.
+fn padded(alloc: Global, spaces: usize) -> Result<Vec<u8>, AllocError>
+    requires few { spaces < 2 ^ 21 }
+    ensures some { IfOk result (λ text. 1 ≤ length text.items) }
+{
+    let mut text = vec![in alloc; b' '; spaces]?;
+    text.extend_from_slice(COUNTER.as_bytes())?;
+    Ok(text)
+}
+
 #[test]
 fn a_model_may_have_a_mebibyte(rt: HostRuntime) -> Result<(), Fail> {
     let alloc = rt.alloc();
     let words = owned(alloc, &["m", "--stop", "0"])?;
-    let mut text = vec![in alloc; b' '; 1_048_577 - COUNTER.len()]?;
-    text.extend_from_slice(COUNTER.as_bytes())?;
+    let text = padded(alloc, 1_048_577 - COUNTER.len())?;
     for (from, status, line) in [
         (1usize, Status::Done, ""),
         (0, Status::Refused, "refused L0 at model\n"),
