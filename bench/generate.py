@@ -1,11 +1,10 @@
 #!/usr/bin/env python3
-"""Writes a large model of the first form: a chain of names, each of which reads the one before it.
+"""Writes a large model of one clock: a chain of names, each of which reads the one before it.
 
     generate.py [--names N] > FILE
 
-The first name counts ticks, and every other one has its value. The names are the shortest that there are, since a
-declaration and an equation of three-letter names take 20 bytes: some 52,900 names fill the 1,048,576 bytes that a
-model may have.
+The first name counts ticks, and every other one is greater by 1 than the one before it. The names are the shortest
+that there are, so that many fit the 1,048,576 bytes that a model may have.
 """
 
 import argparse
@@ -21,25 +20,26 @@ KEYWORDS = {"if", "in", "or", "and", "der", "end", "for", "not"}
 
 
 def short_names():
-    """All names that are no keywords, shortest first."""
+    """All names that are no keywords and no names of functions, shortest first."""
+    functions = {"div", "mod", "rem", "abs", "min", "max"}
     for length in itertools.count(1):
         for parts in itertools.product(FIRST_BYTES, *[LATER_BYTES] * (length - 1)):
             name = "".join(parts)
-            if name not in KEYWORDS:
+            if name not in KEYWORDS and name not in functions:
                 yield name
 
 
 def model_text(count):
     names = list(itertools.islice(short_names(), count))
-    declarations = "".join(f"Integer {name};" for name in names)
-    chain = "".join(f"{name}={before};" for before, name in itertools.pairwise(names))
-    counter = f"{names[0]}=previous({names[0]})+1;"
-    return f"model Chain {declarations}equation when Clock(1)then {counter}{chain}end when;end Chain;\n"
+    declarations = f"Integer {','.join(names)};\n"
+    counter = f"{names[0]}=previous({names[0]})+1;\n"
+    chain = "".join(f"{name}={before}+1;\n" for before, name in itertools.pairwise(names))
+    return f"model Chain\n{declarations}equation\nwhen Clock(1) then\n{counter}{chain}end when;\nend Chain;\n"
 
 
 def main():
     parser = argparse.ArgumentParser(description="Writes a chain of names as a model.")
-    parser.add_argument("--names", type=int, default=52_900)
+    parser.add_argument("--names", type=int, default=60_000)
     count = parser.parse_args().names
     if count < 1:
         sys.exit("generate.py: a chain has at least one name")

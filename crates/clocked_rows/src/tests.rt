@@ -34,6 +34,21 @@ const NO_EQUATION: &str = "model M equation when Clock(1) then end when; end M;\
 const TWO_NAMES: &str =
     "model M Integer a(start = 1); Integer b; equation when Clock(1) then b = 2 + 3; a = previous(a) + b; end when; end M;\n";
 
+/// 65 brackets inside each other.
+const DEEP: &str =
+    "model M Integer x = (((((((((((((((((((((((((((((((((((((((((((((((((((((((((((((((((1))))))))))))))))))))))))))))))))))))))))))))))))))))))))))))))))); equation end M;\n";
+
+const EXPRESSIONS: &str =
+    "model M Integer a; Boolean b; equation when Clock(1) then a = previous(a) + 3; b = a > 4 and mod(10, a) == 4; end when; end M;\n";
+
+/// The divisor is 0 at the second tick.
+const DIVISION: &str =
+    "model M Integer p; Integer a; equation when Clock(1) then p = previous(p) + 1; a = div(6, 2 - p); end when; end M;\n";
+
+/// A Boolean with a start, and a branch that would fail where it is not taken.
+const BOOLEANS: &str =
+    "model M Boolean b(start = true); Integer n; equation when Clock(1) then b = not previous(b); n = if b then 0 else 1 + (if b then div(1, 0) else 0); end when; end M;\n";
+
 fn owned(alloc: Global, words: &[&str]) -> Result<Vec<String>, AllocError> {
     let mut all = Vec::new(alloc);
     for word in words {
@@ -162,6 +177,93 @@ fn commands_have_their_answers(rt: HostRuntime) -> Result<(), Fail> {
             rt.alloc(),
             &Call {
                 words,
+                model,
+                out_fails: &[],
+                err_fails: &[],
+                status,
+                out,
+                err,
+            },
+        )?;
+    }
+    Ok(())
+}
+
+#[test]
+fn texts_are_refused_at_their_places(rt: HostRuntime) -> Result<(), Fail> {
+    let texts = [
+        ("model M @ end M;\n", "refused L1 at 1:9\n"),
+        ("model M\n/* x\nend M;\n", "refused L2 at 2:1\n"),
+        (
+            "model M Integer x = 9223372036854775808; equation end M;\n",
+            "refused L3 at 1:21\n",
+        ),
+        (
+            "model X\n  parameter Integer a = 3;\n  parameter Integer b = 2;\n  Integer y = a * -b;\nend X;\n",
+            "refused S1 at 4:19\n",
+        ),
+        ("model M\n  Integer x;\nend", "refused S1 at 3:4\n"),
+        (
+            "model M Integer x = 1.5; equation end M;\n",
+            "refused S3 at 1:21\n",
+        ),
+        (DEEP, "refused S2 at 1:86\n"),
+        (
+            "model M Integer x; equation x = 1; end M;\n",
+            "refused B0 at model\n",
+        ),
+        (
+            "model M Integer x; equation when Clock(1) then x = y; end when; end M;\n",
+            "refused B0 at model\n",
+        ),
+        (
+            "model M Boolean b; equation when Clock(1) then b = 1; end when; end M;\n",
+            "refused B0 at model\n",
+        ),
+    ];
+    for (model, err) in texts {
+        let call = Call {
+            words: &["m", "--stop", "1"],
+            model,
+            out_fails: &[],
+            err_fails: &[],
+            status: Status::Refused,
+            out: "",
+            err,
+        };
+        check(&rt, rt.alloc(), &call)?;
+    }
+    Ok(())
+}
+
+#[test]
+fn expressions_run(rt: HostRuntime) -> Result<(), Fail> {
+    let models = [
+        (
+            EXPRESSIONS,
+            Status::Done,
+            "time,a,b\n0,3,false\n1,6,true\n",
+            "",
+        ),
+        (
+            DIVISION,
+            Status::Faulted,
+            "time,p,a\n0,1,6\n",
+            "fault divide at 1 in equation 2\n",
+        ),
+        (
+            BOOLEANS,
+            Status::Done,
+            "time,b,n\n0,false,1\n1,true,0\n",
+            "",
+        ),
+    ];
+    for (model, status, out, err) in models {
+        check(
+            &rt,
+            rt.alloc(),
+            &Call {
+                words: &["m", "--stop", "1"],
                 model,
                 out_fails: &[],
                 err_fails: &[],

@@ -3,7 +3,6 @@ use Rattle.std.proofs.Common.{◌≡◌, ◌≢◌, refl, sym, subst, ◌∙◌,
 use Rattle.outside_io.specs.Counts.{Rose}
 use Rattle.outside_io.specs.Texts.{grown}
 use Rattle.outside_io.proofs.Growth.{grown-nil}
-use Rattle.clocked_run.specs.declared.code.Code.TheVariants.{L0, B0, P1}
 use Rattle.clocked_run.specs.declared.command.UsageFault.TheVariants.{Words}
 use Rattle.clocked_run.specs.declared.command.UsageFault.TheVariants as usage
 use Rattle.clocked_run.specs.declared.status.Status.{Status}
@@ -40,12 +39,8 @@ module _ (Right : Status → List ℕ → List ℕ → Type 0) (out err : Writte
       line_ends status.Usage s out_text _ (λ e. cc) (λ same. told_end status.Usage s out_text _ (λ e. cc) same) is grew puts
   stop_ends (Usage usage.Stop) s (out_text, is, grew) rose puts =
       line_ends status.Usage s out_text _ (λ e. cc) (λ same. told_end status.Usage s out_text _ (λ e. cc) same) is grew puts
-  stop_ends (Refused L0) s (out_text, is, grew) rose puts =
-      line_ends status.Refused s out_text _ (λ e. cc) (λ same. told_end status.Refused s out_text _ (λ e. cc) same) is grew puts
-  stop_ends (Refused B0) s (out_text, is, grew) rose puts =
-      line_ends status.Refused s out_text _ (λ e. cc) (λ same. told_end status.Refused s out_text _ (λ e. cc) same) is grew puts
-  stop_ends (Refused P1) s (out_text, is, grew) rose puts =
-      line_ends status.Refused s out_text _ (λ e. cc) (λ same. told_end status.Refused s out_text _ (λ e. cc) same) is grew puts
+  stop_ends (Refused code place) s (out_text, is, grew) rose puts =
+      line_ends status.Refused s out_text (line_of (Refused code place)) (λ e. cc) (λ same. told_end status.Refused s out_text (line_of (Refused code place)) (λ e. cc) same) is grew puts
   stop_ends (Faulted kind at equation) s (out_text, is, grew) rose puts =
       line_ends status.Faulted s out_text (line_of (Faulted kind at equation)) (λ e. cc) (λ same. told_end status.Faulted s out_text (line_of (Faulted kind at equation)) (λ e. cc) same) is grew puts
   stop_ends (ReadFault name) s (out_text, is, grew) rose puts =

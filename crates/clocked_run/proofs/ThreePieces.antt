@@ -2,7 +2,7 @@
 use Rattle.std.proofs.Common.{◌≡◌, ap, sym, subst, ◌∙◌, ℕ, List, [], ◌++◌, Option, append_assoc, append-nil}
 use Rattle.outside_io.specs.Texts.{grown, GrewByPrefix}
 use Rattle.outside_io.proofs.Growth.{grown-nil, grown-grown}
-use Rattle.clocked_run.proofs.RowsLemmas.{GrewByPrefix-after}
+use Rattle.one_clock_run.proofs.RowsLemmas.{GrewByPrefix-after}
 
 pub all_put : (a b c : List ℕ) (old one two three : Option (List ℕ)) → one ≡ grown a old → two ≡ grown b one → three ≡ grown c two → three ≡ grown (a ++ b ++ c) old
 all_put a b c old one two three first second third =

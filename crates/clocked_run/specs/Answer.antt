@@ -1,29 +1,26 @@
 -- The answer of a command: its status, and what it puts on out and err. This project's own.
-use Rattle.std.specs.Prelude.{◌≡◌, ℕ, ◌+◌, ◌-◌, ◌<◌, ◌≤◌, List, [], ◌∷◌, ◌++◌, Some, codes, decimal, length, take}
-use Rattle.sync_values.specs.declared.value.Fail.{Fail}
-use Rattle.sync_values.specs.declared.value.Fail.TheVariants as fail
+use Rattle.std.specs.Prelude.{◌≡◌, ℕ, ◌<◌, ◌≤◌, List, [], ◌∷◌, length}
 use Rattle.rational_time.specs.declared.ratio.Ratio.{Ratio}
-use Rattle.rational_time.specs.Fraction.{instant_text}
-use Rattle.mo_parser.specs.declared.first_model.FirstModel.{FirstModel}
-use Rattle.mo_parser.specs.FirstText.{IsFirstText}
+use Rattle.mo_lexer.specs.declared.token.Token.{Token}
+use Rattle.mo_lexer.specs.declared.fault.LexCode.{LexCode}
+use Rattle.mo_lexer.specs.Tokens.{AreTokens, IsFaultAt}
+use Rattle.mo_parser.specs.declared.tree.Tree.{Tree}
+use Rattle.mo_parser.specs.declared.syntax.SyntaxCode.{SyntaxCode}
+use Rattle.mo_parser.specs.grammar.Faults.{Spells, IsFault}
+use Rattle.mo_parser.specs.reading.Outcomes.{head}
 use Rattle.flat_model.specs.declared.clock.Clock.TheVariants.{Periodic}
-use Rattle.flat_model.specs.declared.clock.Moment.{Moment}
-use Rattle.flat_model.specs.declared.clock.Moment.TheVariants.{Initial, At}
-use Rattle.flat_model.specs.declared.fault.FaultPlace.{FaultPlace}
-use Rattle.flat_model.specs.declared.fault.FaultPlace.TheVariants.{Equation, Site}
-use Rattle.flat_model.specs.Assignment.{Assignment}
-use Rattle.flat_model.specs.Moments.{moment_at}
+use Rattle.flat_model.specs.declared.model.FlatModel.{FlatModel}
+use Rattle.flat_model.specs.declared.place.Place.TheVariants.{Model, Plan}
 use Rattle.flat_model.specs.Setting.{Setting}
-use Rattle.flat_model.specs.Meets.{Meets}
-use Rattle.flat_model.specs.Faults.{IsFirstFault}
 use Rattle.flat_model.specs.Plan.{IsPlanned}
-use Rattle.flat_model.specs.Trace.{trace_text}
-use Rattle.clocked_run.specs.declared.code.Code.{Code}
+use Rattle.one_clock.specs.Form.{IsForm}
+use Rattle.one_clock_run.specs.Setting.{IsClockOf, IsSettingOf, if_any}
+use Rattle.one_clock_run.specs.Runs.{IsWholeRun, IsFaultedRun}
 use Rattle.clocked_run.specs.declared.code.Code.TheVariants.{L0, B0, P1}
 use Rattle.clocked_run.specs.declared.status.Status.{Status}
 use Rattle.clocked_run.specs.declared.status.Status.TheVariants.{Done, Refused, Faulted, Usage}
 use Rattle.clocked_run.specs.Command.{IsCommand, IsUsage}
-use Rattle.clocked_run.specs.FirstSetting.{IsClockOf, IsSettingOf, if_any}
+use Rattle.clocked_run.specs.Refusals.{refusal_line, code_of_lexical, code_of_syntax, place_at}
 
 -- the most bytes of a model
 abbrev pub model_limit : ℕ
@@ -33,68 +30,64 @@ model_limit = 1048576
 abbrev pub plan_limit : ℕ
 plan_limit = 16777216
 
-abbrev pub refusal_line : Code → List ℕ
-refusal_line L0 = codes "refused L0 at model\n"
-refusal_line B0 = codes "refused B0 at model\n"
-refusal_line P1 = codes "refused P1 at plan\n"
-
-abbrev pub kind_text : Fail → List ℕ
-kind_text fail.Divide = codes "divide"
-kind_text fail.TooLarge = codes "too-large"
-
-abbrev pub moment_text : Moment → List ℕ
-moment_text Initial = codes "initial"
-moment_text (At t) = instant_text t
-
--- equations and clocks are printed from 1
-abbrev pub place_text : FaultPlace → List ℕ
-place_text (Equation i) = codes "equation " ++ decimal (i + 1)
-place_text (Site i) = codes "clock " ++ decimal (i + 1)
-
-abbrev pub fault_line : Moment → FaultPlace → Fail → List ℕ
-fault_line moment place kind = codes "fault " ++ kind_text kind ++ codes " at " ++ moment_text moment ++ codes " in " ++ place_text place ++ codes "\n"
-
--- what is read of a model that breaks no rule of its text: the model, its clock, and how many rows and ticks a run up to the stop has
-pub record IsRead (bytes : List ℕ) (stop : Ratio) (first : FirstModel) (count : ℕ) : Type 0 where
+-- the bytes are the text of a tree: they are not too many, and the tokens that belong to them spell it
+pub record HasTree (bytes : List ℕ) (tree : Tree) : Type 0 where
   pub few_bytes : length bytes ≤ model_limit
-  pub text : IsFirstText bytes first
+  pub tokens : List Token
+  pub belong : AreTokens bytes tokens
+  pub spelled : Spells bytes 64 tree tokens
+
+-- what is read of a model that breaks no rule of its text: the model of one clock, and how many rows and ticks a run up to the stop has
+pub record IsRead (bytes : List ℕ) (stop : Ratio) (model : FlatModel) (counter resolution count : ℕ) : Type 0 where
+  pub tree : Tree
+  pub has_tree : HasTree bytes tree
+  pub form : IsForm bytes tree model counter resolution
   pub period : Ratio
   pub start : Ratio
-  pub clock : IsClockOf first period start
-  pub planned : IsPlanned (if_any first.equations (Periodic period start)) (start ∷ []) stop count
+  pub clock : IsClockOf counter resolution period start
+  pub planned : IsPlanned (if_any model.equations (Periodic period start)) (start ∷ []) stop count
+
+-- a rule, with the place of what breaks it
+pub data Rule : Type 0 where
+  TooLong : Rule
+  Lexical : (code : LexCode) → (at : ℕ) → Rule
+  Syntax : (code : SyntaxCode) → (at : ℕ) → Rule
+  NotBuilt : Rule
+  TooMany : Rule
+
+-- the first broken rule of a text that is not too long
+abbrev pub BreaksText : List ℕ → Rule → Type 0
+BreaksText bytes (Lexical code at) = IsFaultAt bytes code at
+BreaksText bytes (Syntax code at) = (tokens : List Token) × (rest : List Token) × AreTokens bytes tokens × IsFault bytes 64 tokens code rest × (at ≡ (head rest).at)
+BreaksText bytes NotBuilt = (tree : Tree) × HasTree bytes tree × ((model : FlatModel) (counter resolution : ℕ) → IsForm bytes tree model counter resolution → ⊥)
+BreaksText bytes _ = ⊥
 
 -- the first broken rule
-abbrev pub BreaksFirst : List ℕ → Ratio → Code → Type 0
-BreaksFirst bytes stop L0 = model_limit < length bytes
-BreaksFirst bytes stop B0 = (length bytes ≤ model_limit) × ((first : FirstModel) → IsFirstText bytes first → ⊥)
-BreaksFirst bytes stop P1 = (first : FirstModel) × (count : ℕ) × IsRead bytes stop first count × (plan_limit < count)
+abbrev pub BreaksFirst : List ℕ → Ratio → Rule → Type 0
+BreaksFirst bytes stop TooLong = model_limit < length bytes
+BreaksFirst bytes stop (Lexical code at) = (length bytes ≤ model_limit) × BreaksText bytes (Lexical code at)
+BreaksFirst bytes stop (Syntax code at) = (length bytes ≤ model_limit) × BreaksText bytes (Syntax code at)
+BreaksFirst bytes stop NotBuilt = BreaksText bytes NotBuilt
+BreaksFirst bytes stop TooMany =
+    (model : FlatModel) × (counter : ℕ) × (resolution : ℕ) × (count : ℕ) × IsRead bytes stop model counter resolution count × (plan_limit < count)
+
+-- the line of a rule
+abbrev pub line_of_rule : List ℕ → Rule → List ℕ
+line_of_rule bytes TooLong = refusal_line L0 Model
+line_of_rule bytes (Lexical code at) = refusal_line (code_of_lexical code) (place_at bytes at)
+line_of_rule bytes (Syntax code at) = refusal_line (code_of_syntax code) (place_at bytes at)
+line_of_rule bytes NotBuilt = refusal_line B0 Model
+line_of_rule bytes TooMany = refusal_line P1 Plan
 
 -- no rule is broken, and a run is over this
 abbrev pub IsAccepted : List ℕ → Ratio → Setting → Type 0
-IsAccepted bytes stop s = (first : FirstModel) × (count : ℕ) × IsRead bytes stop first count × (count ≤ plan_limit) × IsSettingOf first stop s
-
--- out has the trace of an assignment that meets the model up to the last moment
-pub record IsWholeRun (s : Setting) (out err : List ℕ) : Type 0 where
-  pub assignment : Assignment
-  pub meets : Meets s assignment (length s.instants)
-  pub out_is : out ≡ trace_text s.model.names assignment s.instants
-  pub err_is : err ≡ []
-
--- out has the trace up to the moment before the first fault, and err names the fault
-pub record IsFaultedRun (s : Setting) (out err : List ℕ) : Type 0 where
-  pub assignment : Assignment
-  pub moment : ℕ
-  pub at : Moment
-  pub place : FaultPlace
-  pub kind : Fail
-  pub found : moment_at s.instants moment ≡ Some at
-  pub fault : IsFirstFault s assignment moment place kind
-  pub out_is : out ≡ trace_text s.model.names assignment (take (moment - 1) s.instants)
-  pub err_is : err ≡ fault_line at place kind
+IsAccepted bytes stop s =
+    (model : FlatModel) × (counter : ℕ) × (resolution : ℕ) × (count : ℕ) × IsRead bytes stop model counter resolution count × (count ≤ plan_limit)
+    × IsSettingOf model counter resolution stop s
 
 -- the answer of a model's bytes up to a stop
 abbrev pub AnswersModel : List ℕ → Ratio → Status → List ℕ → List ℕ → Type 0
-AnswersModel bytes stop Refused out err = (code : Code) × BreaksFirst bytes stop code × (out ≡ []) × (err ≡ refusal_line code)
+AnswersModel bytes stop Refused out err = (rule : Rule) × BreaksFirst bytes stop rule × (out ≡ []) × (err ≡ line_of_rule bytes rule)
 AnswersModel bytes stop Faulted out err = (s : Setting) × IsAccepted bytes stop s × IsFaultedRun s out err
 AnswersModel bytes stop Done out err = (s : Setting) × IsAccepted bytes stop s × IsWholeRun s out err
 AnswersModel bytes stop _ out err = ⊥

@@ -1,12 +1,8 @@
 pub mod Answer
 pub mod Command
-pub mod Computed
 pub mod Ends
-pub mod FirstSetting
 pub mod Lines
 pub mod Readings
-pub mod Runs
+pub mod Refusals
 pub mod Statuses
-pub mod Steps
 pub mod Stops
-pub mod Traces

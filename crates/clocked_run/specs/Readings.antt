@@ -2,28 +2,35 @@
 use Rattle.std.specs.Prelude.{◌≡◌, ◌≢◌, ℕ, List, [], Option, Result, Ok, Err}
 use Rattle.outside_io.specs.Files.{Told, IsLonger}
 use Rattle.outside_io.specs.Texts.{grown, GrewByPrefix}
-use Rattle.mo_parser.specs.declared.first_model.FirstModel.{FirstModel}
-use Rattle.mo_parser.specs.FirstText.{IsFirstText}
-use Rattle.clocked_run.specs.declared.code.Code.TheVariants.{L0, B0}
+use Rattle.mo_parser.specs.declared.tree.Tree.{Tree}
+use Rattle.flat_model.specs.declared.model.FlatModel.{FlatModel}
+use Rattle.flat_model.specs.declared.place.Place.TheVariants.{Model}
+use Rattle.one_clock.specs.Form.{IsForm}
+use Rattle.clocked_run.specs.declared.code.Code.TheVariants.{L0}
 use Rattle.clocked_run.specs.declared.status.Status.{Status}
 use Rattle.clocked_run.specs.declared.status.Status.TheVariants.{Done}
 use Rattle.clocked_run.specs.declared.stop.Stop.{Stop}
 use Rattle.clocked_run.specs.declared.stop.Stop.TheVariants.{Refused, ReadFault, NoMemory, OutFailed}
-use Rattle.clocked_run.specs.Answer.{model_limit}
+use Rattle.clocked_run.specs.Answer.{HasTree, Rule, BreaksText, line_of_rule, model_limit}
+use Rattle.clocked_run.specs.Refusals.{refusal_line}
 use Rattle.clocked_run.specs.Stops.{status_of, line_of}
 
 -- why the bytes of a model were not read: a counted fault, a file that is too long, or want of memory
 abbrev pub IsUnread : Told → Type 0 → List ℕ → Stop → Type 0
 IsUnread told rose model (ReadFault name) = (name.now ≡ model) × rose
-IsUnread told rose model (Refused L0) = IsLonger told model_limit
+IsUnread told rose model (Refused code place) = (code ≡ L0) × (place ≡ Model) × IsLonger told model_limit
 IsUnread told rose model NoMemory = Unit {0}
 IsUnread told rose model _ = ⊥
 
--- why no model was made of bytes: they are no text of the first form, or want of memory
+-- why no model was made of bytes: they break a rule of the text, or want of memory
 abbrev pub IsUnbuilt : List ℕ → Stop → Type 0
-IsUnbuilt bytes (Refused B0) = (first : FirstModel) → IsFirstText bytes first → ⊥
+IsUnbuilt bytes (Refused code place) = (rule : Rule) × BreaksText bytes rule × (refusal_line code place ≡ line_of_rule bytes rule)
 IsUnbuilt bytes NoMemory = Unit {0}
 IsUnbuilt bytes _ = ⊥
+
+-- the bytes are the text of a tree that stands for this model of one clock
+abbrev pub StandsFor : List ℕ → FlatModel → ℕ → ℕ → Type 0
+StandsFor bytes model counter resolution = (tree : Tree) × HasTree bytes tree × IsForm bytes tree model counter resolution
 
 -- out grew by the right text, or failed in the midst of it
 abbrev pub AnswersAs : (Status → List ℕ → List ℕ → Type 0) → Option (List ℕ) → Option (List ℕ) → Result (Unit {0}) Stop → Type 0

@@ -4,15 +4,12 @@
 mod code;
 mod command;
 mod err_line;
-mod line;
-mod part;
-mod plan;
+mod place;
+mod reading;
 mod report;
-mod runner;
 mod status;
 mod stop;
 mod top;
-mod trace;
 
 pub use code::Code;
 pub use status::Status;

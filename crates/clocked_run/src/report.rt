@@ -1,11 +1,9 @@
 ghost use Rattle.std.specs.Prelude.{◌≡◌, ◌≤◌, ◌++◌, ℕ, List, codes, length, OnOk, OnErr};
 ghost use Rattle.outside_io.specs.Counts.{Rose};
 ghost use Rattle.outside_io.specs.Texts.{grown, GrewByPrefix};
-ghost use Rattle.clocked_run.specs.Answer.{refusal_line};
 ghost use Rattle.clocked_run.specs.Lines.{usage_line};
-ghost use Rattle.clocked_run.specs.Stops.{PutsLine, Reports};
+ghost use Rattle.clocked_run.specs.Stops.{IsPrintable, PutsLine, Reports};
 
-use crate::code::Code;
 use crate::command::UsageFault;
 use crate::err_line::ErrLine;
 use crate::status::Status;
@@ -14,12 +12,16 @@ use outside_io::{Sink, WriteFailed, put_all};
 
 /// Puts the line of a stop on err, and gives the status.
 pub fn report<E: Sink>(stop: &Stop<'_>, err: &mut E) -> Status
+    requires { IsPrintable stop.now }
     ensures reports { Reports stop.now result (E.text err.old) (E.text err.new) (E.faults err.old) (E.faults err.new) }
     ensures counts { E.faults err.old ≤ E.faults err.new }
 {
     match stop {
         Stop::Usage(fault) => put_line(err, Status::Usage, usage_text(*fault)),
-        Stop::Refused(code) => put_line(err, Status::Refused, refusal_text(*code)),
+        Stop::Refused { code, place } => {
+            let line = ErrLine::refusal(*code, place);
+            put_line(err, Status::Refused, line.bytes())
+        }
         Stop::Faulted { kind, at, equation } => {
             let line = ErrLine::fault(*kind, *at, *equation);
             put_line(err, Status::Faulted, line.bytes())
@@ -39,16 +41,6 @@ fn usage_text(fault: UsageFault) -> &'static [u8]
     match fault {
         UsageFault::Words => b"usage: words\n",
         UsageFault::Stop => b"usage: --stop\n",
-    }
-}
-
-fn refusal_text(code: Code) -> &'static [u8]
-    ensures { result.now ≡ refusal_line code }
-{
-    match code {
-        Code::L0 => b"refused L0 at model\n",
-        Code::B0 => b"refused B0 at model\n",
-        Code::P1 => b"refused P1 at plan\n",
     }
 }
 

@@ -1,5 +1,6 @@
 use crate::code::Code;
 use crate::command::UsageFault;
+use flat_model::Place;
 use rational_time::Ratio;
 use sync_values::Fail;
 
@@ -7,7 +8,11 @@ use sync_values::Fail;
 #[derive(Debug, Drop)]
 pub enum Stop<'a> {
     Usage(UsageFault),
-    Refused(Code),
+    /// The first broken rule, and its place.
+    Refused {
+        code: Code,
+        place: Place,
+    },
     /// The equation, counted from 0, failed at this instant.
     Faulted {
         kind: Fail,

@@ -1,26 +1,23 @@
-ghost use Rattle.std.specs.Prelude.{◌≡◌, ◌≤◌, ◌⊎◌, ℕ, List, Ok, Err, IfOk, IfErr, length, map, string_bytes};
+ghost use Rattle.std.specs.Prelude.{◌≡◌, ◌≤◌, ◌⊎◌, ℕ, List, Err, IfErr, map, string_bytes};
 ghost use Rattle.outside_io.specs.Counts.{Rose};
-ghost use Rattle.outside_io.specs.Files.{File, told, IsWhole};
-ghost use Rattle.mo_parser.specs.declared.first_model.FirstModel.{FirstModel};
-ghost use Rattle.mo_parser.specs.FirstText.{IsFirstText};
+ghost use Rattle.outside_io.specs.Files.{File, told};
 ghost use Rattle.rational_time.specs.declared.ratio.Ratio.{Ratio};
 ghost use Rattle.clocked_run.specs.Command.{IsCommand, IsUsage};
 ghost use Rattle.clocked_run.specs.Ends.{EndsAs, IsComplete, IsRight, written};
-ghost use Rattle.clocked_run.specs.Readings.{AnswersAs, IsUnbuilt, IsUnread};
+ghost use Rattle.clocked_run.specs.Readings.{AnswersAs};
+ghost use Rattle.clocked_run.specs.Stops.{IsPrintable, stop_of};
 
 use crate::code::Code;
 use crate::command::read_command;
+use crate::reading::{read_model, read_one_clock};
 use crate::report::report;
 use crate::status::Status;
 use crate::stop::Stop;
-use crate::trace::trace;
-use mo_parser::{FirstEnd, FirstModel, parse_first};
-use outside_io::{Gate, ReadEnd, Shelf, Sink, read_whole};
+use flat_model::Place;
+use one_clock_run::{RunStop, trace};
+use outside_io::{Gate, Shelf, Sink};
 use std::alloc::Global;
 use std::thread::Threads;
-
-/// The most bytes of a model.
-const MODEL_LIMIT: u64 = 1_048_576;
 
 /// Carries out a command: `MODEL --stop T` runs the model of that name from the shelf up to the stop, and puts its
 /// trace on `out`; what keeps it from its end is put on `err` as one line.
@@ -89,6 +86,7 @@ fn answer<'a, S: Shelf, O: Sink>(
 ) -> Result<(), Stop<'a>>
     ensures answers { AnswersAs (IsRight (map string_bytes words.entry.now) (told (S.held shelf.old) (S.gives_empty shelf.old)) (λ name. Rose (S.faults shelf.old name) (S.faults shelf.new name)))
         (O.text out.old) (O.text out.new) result }
+    ensures printable { IfErr result IsPrintable }
     ensures failed { result ≡ Err Stop.OutFailed → Rose (O.faults out.old) (O.faults out.new) }
     ensures counts { (O.faults out.old ≤ O.faults out.new) × ((name : List ℕ) → S.faults shelf.old name ≤ S.faults shelf.new name) }
     ensures holds { S.held shelf.new ≡ S.held shelf.old }
@@ -102,43 +100,27 @@ fn answer<'a, S: Shelf, O: Sink>(
         Ok(bytes) => bytes,
         Err(stop) => return Err(stop),
     };
-    let first = match first_model(alloc, bytes.as_slice()) {
-        Ok(first) => first,
+    let model = match read_one_clock(alloc, bytes.as_slice()) {
+        Ok(model) => model,
         Err(stop) => return Err(stop),
     };
-    trace(alloc, &first, command.stop, out)
-}
-
-/// Reads the bytes of the model of a name.
-fn read_model<'a, S: Shelf>(
-    alloc: Global,
-    shelf: &mut S,
-    model: &'a str,
-) -> Result<Vec<u8>, Stop<'a>>
-    ensures whole { IfOk result (λ bytes. IsWhole (told (S.held shelf.old) (S.gives_empty shelf.old) model.entry.now) bytes.items) }
-    ensures within { IfOk result (λ bytes. length bytes.items ≤ 1048576) }
-    ensures unread { IfErr result (IsUnread (told (S.held shelf.old) (S.gives_empty shelf.old) model.entry.now) (Rose (S.faults shelf.old model.entry.now) (S.faults shelf.new model.entry.now)) model.entry.now) }
-    ensures counts { (name : List ℕ) → S.faults shelf.old name ≤ S.faults shelf.new name }
-    ensures holds { S.held shelf.new ≡ S.held shelf.old }
-    ensures flag { S.gives_empty shelf.new ≡ S.gives_empty shelf.old }
-{
-    match read_whole(alloc, shelf, model, MODEL_LIMIT) {
-        Ok(bytes) => Ok(bytes),
-        Err(ReadEnd::Failed) => Err(Stop::ReadFault(model)),
-        Err(ReadEnd::TooLong) => Err(Stop::Refused(Code::L0)),
-        Err(ReadEnd::NoMemory) => Err(Stop::NoMemory),
+    match trace(alloc, &model, command.stop, out) {
+        Ok(()) => Ok(()),
+        Err(end) => Err(stop_of(end)),
     }
 }
 
-/// Reads a text of the first form.
-fn first_model(alloc: Global, bytes: &[u8]) -> Result<FirstModel, Stop<'static>>
-    requires { length bytes.now ≤ 1048576 }
-    ensures text { IfOk result (IsFirstText bytes.now) }
-    ensures unbuilt { IfErr result (IsUnbuilt bytes.now) }
+/// Why a run did not reach its stop, as it is reported.
+fn stop_of(end: RunStop) -> Stop<'static>
+    ensures { result ≡ stop_of end }
 {
-    match parse_first(alloc, bytes) {
-        Ok(first) => Ok(first),
-        Err(FirstEnd::NotBuilt) => Err(Stop::Refused(Code::B0)),
-        Err(FirstEnd::NoMemory) => Err(Stop::NoMemory),
+    match end {
+        RunStop::TooLong => Stop::Refused {
+            code: Code::P1,
+            place: Place::Plan,
+        },
+        RunStop::NoMemory => Stop::NoMemory,
+        RunStop::Faulted { kind, at, equation } => Stop::Faulted { kind, at, equation },
+        RunStop::OutFailed => Stop::OutFailed,
     }
 }

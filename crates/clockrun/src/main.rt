@@ -2,26 +2,37 @@
 #![tactic(auto)]
 
 use clocked_run::{Status, clocked_run};
-use outside_io::{ErrSink, FileShelf, OpenGate, OutSink};
+use outside_io::{ErrSink, FileShelf, OpenGate, OutSink, put_all};
+use std::io::ErrorKind;
 use std::process::ExitCode;
 
-/// The words after the program's name, which want of memory alone keeps from being read.
+/// The words after the program's name. A word that is no UTF-8 is no word of a command.
 fn words(rt: &HostRuntime) -> Result<Vec<String>, Status> {
-    let Ok(mut args) = std::env::args(rt) else {
-        return Err(Status::NoMemory);
+    let mut args = match std::env::args(rt) {
+        Ok(args) => args,
+        Err(error) if error.kind() == ErrorKind::OutOfMemory => return Err(Status::NoMemory),
+        Err(_) => return Err(Status::Usage),
     };
     let _program = args.next();
     args.collect(rt.alloc()).map_err(|_| Status::NoMemory)
 }
 
 fn main(rt: HostRuntime) -> ExitCode {
+    let mut err = ErrSink::new(rt.stderr());
     let words = match words(&rt) {
         Ok(words) => words,
-        Err(status) => return ExitCode::from(status.number()),
+        Err(status) => {
+            let line: &[u8] = if status == Status::Usage {
+                b"usage: words\n"
+            } else {
+                b"no memory\n"
+            };
+            let written = put_all(&mut err, line).map_or(Status::WriteFault, |()| status);
+            return ExitCode::from(written.number());
+        }
     };
     let mut shelf = FileShelf::new(&rt);
     let mut out = OutSink::new(rt.stdout());
-    let mut err = ErrSink::new(rt.stderr());
     let status = clocked_run(
         &rt,
         rt.alloc(),

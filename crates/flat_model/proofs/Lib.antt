@@ -1,6 +1,11 @@
 pub mod Agreement
 pub mod Dependence
+pub mod Evaluations
 pub mod GivenValues
 pub mod Levels
+pub mod Nodes
 pub mod OneSolution
+pub mod Standings
+pub mod Ticks
 pub mod Values
+pub mod Wholes

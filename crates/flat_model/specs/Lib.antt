@@ -1,8 +1,11 @@
 pub mod Assignment
 pub mod Clocks
+pub mod Evaluation
 pub mod Faults
 pub mod Functions
 pub mod Given
+pub mod Intervals
+pub mod Laws
 pub mod Meaning
 pub mod Meets
 pub mod Moments
@@ -10,7 +13,9 @@ pub mod Occurrences
 pub mod Operators
 pub mod Parts
 pub mod Plan
+pub mod Samples
 pub mod Setting
 pub mod Trace
 pub mod Uses
 pub mod Views
+pub mod Typing

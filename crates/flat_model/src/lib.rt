@@ -5,18 +5,28 @@
 
 mod clock;
 mod equation;
+mod evaluate;
 mod expression;
 mod fault;
+mod law;
+mod lookup;
 mod model;
+mod operate;
 mod place;
 mod raw;
 mod table;
 
 pub use clock::{Clock, ClockExpr, Clocking, Conversion, Elapsed, Moment};
 pub use equation::Equation;
+pub use evaluate::eval;
 pub use expression::{Expr, Fun};
 pub use fault::{Fault, FaultPlace};
+pub use law::tick_law;
+pub use lookup::Lookup;
 pub use model::{FlatModel, FlatName, NameKind};
 pub use place::Place;
 pub use raw::{RawEq, RawExpr, RawModel};
 pub use table::{Left, Table};
+
+#[cfg(test)]
+mod tests;

@@ -1,10 +1,4 @@
-mod FirstTurns
-mod FirstNaming
-mod FirstSound
-mod FirstComplete
-mod FirstParts
-mod FirstGaps
-mod FirstOrdering
-mod FirstTokens
-mod FirstFacts
-mod FirstAnswer
+pub mod Turns
+pub mod rules
+pub mod fits
+pub mod Faults

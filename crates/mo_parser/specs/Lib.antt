@@ -1,8 +1,2 @@
-pub mod Ordered
-pub mod FirstModel
-pub mod FirstForm
-pub mod FirstNames
-pub mod FirstOrder
-pub mod FirstPlain
-pub mod FirstReading
-pub mod FirstText
+pub mod grammar
+pub mod reading

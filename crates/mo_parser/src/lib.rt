@@ -1,13 +1,15 @@
 //! Trees of model texts.
 #![tactic(auto)]
 
-mod first;
-mod first_form;
-mod first_model;
-mod first_names;
-mod first_order;
-mod first_plain;
-mod first_reader;
+mod grammar;
+mod syntax;
+mod tree;
 
-pub use first::{first_text_is_one, parse_first};
-pub use first_model::{FirstEnd, FirstEq, FirstModel, FirstTerm};
+pub use syntax::{LEVELS, ParseEnd, SyntaxCode, one_tree, parse};
+pub use tree::{
+    Arg, Causality, ClassDef, ClassKind, Element, Path, Short, Span, Tree, TreeEq, TreeExpr,
+    TreeNode, Variability,
+};
+
+#[cfg(test)]
+mod tests;

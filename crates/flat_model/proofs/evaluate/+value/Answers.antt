@@ -1,0 +1,310 @@
+use Rattle.std.proofs.Common.{rules, arith, ◌≡◌, ◌+◌, ◌<◌, ap, ap₂, ◌∙◌, sym, suc, add-one, true, length, get_or, ◌∷◌, drop}
+use Rattle.std.proofs.lemmas.Bool.{ltb-true}
+use Rattle.std.proofs.lemmas.List.{drop_all}
+use Rattle.std.proofs.Math.Seq.{drop-cons}
+use Rattle.sync_values.specs.declared.value.Value.TheVariants as value
+use Rattle.flat_model.specs.declared.evaluate.Vantage.TheVariants.{Left}
+use Rattle.flat_model.specs.Operators.{Is, Fails, applied, chained, chain, negated, inverted, relation, chosen}
+use Rattle.flat_model.specs.Meaning.{value_of, answers}
+use Rattle.flat_model.specs.Evaluation.{answer_of, seen_from}
+use Rattle.flat_model.specs.Samples.{may_stand, all_may_stand, outside_samples}
+use Rattle.flat_model.proofs.Values.{value_of-Chain, value_of-Relation, value_of-Neg, value_of-Not, value_of-Apply, value_of-Sample}
+use Rattle.flat_model.proofs.Standings.{may_stand-Chain, may_stand-Relation, may_stand-Neg, may_stand-Not, may_stand-Apply, may_stand-Sample}
+use Rattle.flat_model.proofs.Evaluations.{chain_first, chain_first-Fails, next_present, next-Fails, applied_present, next_applied, chained_at, chained_done, standing_at, sampled, first_holds, second_holds, branch_at, chosen_true, chosen_false, If_standing, dropped_at, chained-Fails}
+use Rattle.flat_model.proofs.Nodes.{nodes, all_nodes, nodes_within, nodes-Chain, nodes-Relation, nodes-Neg, nodes-Not, nodes-If, nodes-Apply, nodes-Sample}
+use Rattle.flat_model.proofs.evaluate.+value.Goals as goal
+
+pub chain_value-value_seen-requires : goal.chain_value-value_seen-requires
+chain_value-value_seen-requires g t c κs within =
+    let v = seen_from c.args.vantage (g.V.Lookup.views c.args.values.now) in
+    let is = c.in-Some.ensures.cases.0 in
+    let present = rw is at c.requires.present in
+    let standing = rw is at c.requires.standing in
+    let all : all_nodes c.args.parts.now ≡ nodes c.in-Some.first.now + all_nodes c.in-Some.rest.now = ap all_nodes is in (
+      omega (arith, c.decreases, all),
+      (search rules, (chain_first c.args.ops.now (value_of c.in-Some.first.now v) (answers c.in-Some.rest.now v) present, (first_holds (may_stand c.in-Some.first.now c.args.vantage) (all_may_stand c.args.vantage c.in-Some.rest.now) standing, c.requires.interval))),
+    )
+
+pub chain_value-returns-in_err-total : goal.chain_value-returns-in_err-total
+chain_value-returns-in_err-total g t c =
+    let v = seen_from c.args.vantage (g.V.Lookup.views c.args.values.now) in
+    let kind = c.in_err-total.field-0.0 in
+    let failed : answer_of c.from_residual.result ≡ Fails kind = search rules in
+    let whole : chain c.args.ops.now (answers c.args.parts.now v) ≡ Fails kind =
+    rw c.in-Some.ensures.cases.0 (chain_first-Fails c.args.ops.now (value_of c.in-Some.first.now v) (answers c.in-Some.rest.now v) kind (sym c.in_err-total.ensures)) in
+    failed ∙ sym whole
+
+pub chain_value-value_seen-requires-then-not-is_enough :
+    goal.chain_value-value_seen-requires-then-not-is_enough
+chain_value-value_seen-requires-then-not-is_enough g t c κs within =
+    let v = seen_from c.args.vantage (g.V.Lookup.views c.args.values.now) in
+    let i = c.loop-i.i in let ops = c.args.ops.now in let rest = c.in-Some.rest.now in
+    let op = c.in-Some-get.op.now in let part = c.index-rest-i.result in
+    let is = c.in-Some.ensures.cases.0 in
+    let inside : i < length rest = omega (arith, c.loop-i-test.true) in
+    let op_within : i < length ops = ltb-true _ _ (sym c.in-Some-get.ensures.lookup.0) in
+    let op_is : op ≡ get_or ops i op = c.in-Some-get.ensures.lookup.1 in
+    let turn = chained_at ops rest v c.loop-i.total i op part op_within op_is inside c.index-rest-i.is in
+    let standing = rw is at c.requires.standing in
+    let all : all_nodes c.args.parts.now ≡ nodes c.in-Some.first.now + all_nodes rest = ap all_nodes is in
+    let few = nodes_within rest i part inside c.index-rest-i.is in (
+      omega (arith, c.decreases, all, few),
+      (
+        search rules,
+        (
+          next_present op c.loop-i.total (value_of part v) (drop (suc i) ops) (answers (drop (suc i) rest) v) (sym c.if-not-is_enough.ensures) (λ absent. c.requires.present (sym c.loop-i.invariant ∙ turn ∙ absent)),
+          (
+            standing_at c.args.vantage rest i part (second_holds (may_stand c.in-Some.first.now c.args.vantage) (all_may_stand c.args.vantage rest) standing) inside c.index-rest-i.is,
+            c.requires.interval,
+          ),
+        ),
+      ),
+    )
+
+pub chain_value-returns-in_err-value_seen : goal.chain_value-returns-in_err-value_seen
+chain_value-returns-in_err-value_seen g t c =
+    let v = seen_from c.args.vantage (g.V.Lookup.views c.args.values.now) in
+    let i = c.loop-i.i in let ops = c.args.ops.now in let rest = c.in-Some.rest.now in
+    let op = c.in-Some-get.op.now in let part = c.index-rest-i.result in
+    let kind = c.in_err-value_seen.field-0.0 in
+    let op_within : i < length ops = ltb-true _ _ (sym c.in-Some-get.ensures.lookup.0) in
+    let turn = chained_at ops rest v c.loop-i.total i op part op_within c.in-Some-get.ensures.lookup.1 (omega (arith, c.loop-i-test.true)) c.index-rest-i.is in
+    let failed : answer_of c.from_residual-in_err-value_seen.result ≡ Fails kind = search rules in
+    let fails = next-Fails op c.loop-i.total (value_of part v) (drop (suc i) ops) (answers (drop (suc i) rest) v) kind (sym c.if-not-is_enough.ensures) (sym c.in_err-value_seen.ensures) in
+    failed ∙ sym (sym c.loop-i.invariant ∙ turn ∙ fails)
+
+pub chain_value-apply-requires : goal.chain_value-apply-requires
+chain_value-apply-requires g t c =
+    let v = seen_from c.args.vantage (g.V.Lookup.views c.args.values.now) in
+    let i = c.loop-i.i in let ops = c.args.ops.now in let rest = c.in-Some.rest.now in
+    let op = c.in-Some-get.op.now in let part = c.index-rest-i.result in let w = c.in_ok-value_seen.field-0 in
+    let later = drop (suc i) ops in let others = answers (drop (suc i) rest) v in
+    let needed = sym c.if-not-is_enough.ensures in
+    let op_within : i < length ops = ltb-true _ _ (sym c.in-Some-get.ensures.lookup.0) in
+    let turn = chained_at ops rest v c.loop-i.total i op part op_within c.in-Some-get.ensures.lookup.1 (omega (arith, c.loop-i-test.true)) c.index-rest-i.is in
+    applied_present op c.loop-i.total w (value_of part v) later others needed (sym c.in_ok-value_seen.ensures) (λ absent. c.requires.present (sym c.loop-i.invariant ∙ turn ∙ absent))
+
+pub chain_value-returns-in_err-total-2 : goal.chain_value-returns-in_err-total-2
+chain_value-returns-in_err-total-2 g t c =
+    let v = seen_from c.args.vantage (g.V.Lookup.views c.args.values.now) in
+    let i = c.loop-i.i in let ops = c.args.ops.now in let rest = c.in-Some.rest.now in
+    let op = c.in-Some-get.op.now in let part = c.index-rest-i.result in let w = c.in_ok-value_seen.field-0 in
+    let later = drop (suc i) ops in let others = answers (drop (suc i) rest) v in
+    let needed = sym c.if-not-is_enough.ensures in
+    let op_within : i < length ops = ltb-true _ _ (sym c.in-Some-get.ensures.lookup.0) in
+    let turn = chained_at ops rest v c.loop-i.total i op part op_within c.in-Some-get.ensures.lookup.1 (omega (arith, c.loop-i-test.true)) c.index-rest-i.is in
+    let kind = c.in_err-total-2.field-0.0 in
+    let failed : answer_of c.from_residual-in_err-total-2.result ≡ Fails kind = search rules in
+    let fails : applied op c.loop-i.total w ≡ Fails kind = sym c.in_err-total-2.ensures in
+    let applies = next_applied op c.loop-i.total w (value_of part v) later others needed (sym c.in_ok-value_seen.ensures) in
+    failed ∙ sym (sym c.loop-i.invariant ∙ turn ∙ applies ∙ ap (λ a. chained a later others) fails ∙ chained-Fails kind later others)
+
+pub chain_value-returns-after-loop-i : goal.chain_value-returns-after-loop-i
+chain_value-returns-after-loop-i g t c =
+    let v = seen_from c.args.vantage (g.V.Lookup.views c.args.values.now) in
+    sym (chained_done (Is c.loop-i.total) (drop c.loop-i.i c.args.ops.now) c.in-Some.rest.now v c.loop-i.i c.loop-i-test.false) ∙ c.loop-i.invariant
+
+pub value_seen-chain_value-requires : goal.value_seen-chain_value-requires
+value_seen-chain_value-requires g t c κs within =
+    let present = rw (c.in-Chain.is, value_of-Chain) at c.requires.present in
+    let standing = rw (c.in-Chain.is, may_stand-Chain) at c.requires.standing in
+    let size = ap nodes c.in-Chain.is ∙ nodes-Chain c.in-Chain.parts c.in-Chain.ops in
+    let same = ap all_nodes c.as_slice.ensures in
+    (omega (arith, c.decreases, size, same), (search rules, (rw (c.as_slice.ensures, c.as_slice-in-Chain.ensures) present, (rw c.as_slice.ensures standing, c.requires.interval))))
+
+pub value_seen-value_seen-requires : goal.value_seen-value_seen-requires
+value_seen-value_seen-requires g t c κs within =
+    let v = seen_from c.args.vantage (g.V.Lookup.views c.args.values.now) in
+    let part : c.get.result.now ≡ c.in-Relation.left = search rules in
+    let present = rw (c.in-Relation.is, value_of-Relation) at c.requires.present in
+    let standing = rw (c.in-Relation.is, may_stand-Relation) at c.requires.standing in
+    let size = ap nodes c.in-Relation.is ∙ nodes-Relation c.in-Relation.rel c.in-Relation.left c.in-Relation.right in
+    let same = ap nodes part in (
+      omega (arith, c.decreases, size, same),
+      (
+        search rules,
+        (
+          rw part (λ absent. present (ap (λ a. relation c.in-Relation.rel a (value_of c.in-Relation.right v)) absent)),
+          (
+            rw part (first_holds (may_stand c.in-Relation.left c.args.vantage) (may_stand c.in-Relation.right c.args.vantage) standing),
+            c.requires.interval,
+          ),
+        ),
+      ),
+    )
+
+pub value_seen-value_seen-requires-in-Relation : goal.value_seen-value_seen-requires-in-Relation
+value_seen-value_seen-requires-in-Relation g t c κs within =
+    let v = seen_from c.args.vantage (g.V.Lookup.views c.args.values.now) in
+    let left = c.in-Relation.left in let right = c.in-Relation.right in
+    let part = c.get-in-Relation.ensures in
+    let present = rw (c.in-Relation.is, value_of-Relation) at c.requires.present in
+    let standing = rw (c.in-Relation.is, may_stand-Relation) at c.requires.standing in
+    let size = ap nodes c.in-Relation.is ∙ nodes-Relation c.in-Relation.rel left right in
+    let same = ap nodes part in
+    let left_is : value_of left v ≡ Is c.in_ok-left-in-Relation.left = sym (c.in_ok-left-in-Relation.ensures ∙ ap (λ e. value_of e v) c.get.ensures) in (
+      omega (arith, c.decreases, size, same),
+      (
+        search rules,
+        (
+          rw part (λ absent. present (ap₂ (relation c.in-Relation.rel) left_is absent)),
+          (
+            rw part (second_holds (may_stand left c.args.vantage) (may_stand right c.args.vantage) standing),
+            c.requires.interval,
+          ),
+        ),
+      ),
+    )
+
+pub value_seen-value_seen-requires-in-Neg : goal.value_seen-value_seen-requires-in-Neg
+value_seen-value_seen-requires-in-Neg g t c κs within =
+    let part : c.get-in-Neg.result.now ≡ c.in-Neg.part = search rules in
+    let present = rw (c.in-Neg.is, value_of-Neg) at c.requires.present in
+    let standing = rw (c.in-Neg.is, may_stand-Neg) at c.requires.standing in
+    let size = ap nodes c.in-Neg.is ∙ nodes-Neg c.in-Neg.part in
+    let same = ap nodes part in
+    (omega (arith, c.decreases, size, same), (search rules, (rw part (λ absent. present (ap negated absent)), (rw part standing, c.requires.interval))))
+
+pub value_seen-value_seen-requires-in-Not : goal.value_seen-value_seen-requires-in-Not
+value_seen-value_seen-requires-in-Not g t c κs within =
+    let part : c.get-in-Not.result.now ≡ c.in-Not.part = search rules in
+    let present = rw (c.in-Not.is, value_of-Not) at c.requires.present in
+    let standing = rw (c.in-Not.is, may_stand-Not) at c.requires.standing in
+    let size = ap nodes c.in-Not.is ∙ nodes-Not c.in-Not.part in
+    let same = ap nodes part in
+    (omega (arith, c.decreases, size, same), (search rules, (rw part (λ absent. present (ap inverted absent)), (rw part standing, c.requires.interval))))
+
+pub value_seen-value_seen-requires-in-loop-i : goal.value_seen-value_seen-requires-in-loop-i
+value_seen-value_seen-requires-in-loop-i g t c κs within =
+    let v = seen_from c.args.vantage (g.V.Lookup.views c.args.values.now) in
+    let i = c.loop-i.i in let conditions = c.as_slice-condition-items.result.now in let branches = c.as_slice-branches.result.now in
+    let other = value_of c.in-If.other v in let condition = c.condition-item.result in
+    let inside : i < length conditions = omega (arith, c.loop-i-test.true) in
+    let later = answers (drop (suc i) conditions) v in
+    let turn : chosen (answers (drop i conditions) v) (answers (drop i branches) v) other ≡ chosen (value_of condition v ∷ later) (answers (drop i branches) v) other =
+    ap (λ cs. chosen (answers cs v) (answers (drop i branches) v) other) (dropped_at conditions i condition inside c.condition-item.is) in
+    let standing = If_standing c.args.vantage c.args.expr.now c.in-If.conditions c.in-If.branches c.in-If.other c.in-If.is c.requires.standing in
+    let size = ap nodes c.in-If.is ∙ nodes-If c.in-If.conditions c.in-If.branches c.in-If.other in
+    let few = nodes_within conditions i condition inside c.condition-item.is in
+    let same = ap all_nodes c.as_slice-condition-items.ensures in
+    let all_stand : all_may_stand c.args.vantage conditions ≡ true = rw c.as_slice-condition-items.ensures standing.0 in (
+      omega (arith, c.decreases, size, few, same),
+      (
+        search rules,
+        (
+          (λ absent. c.requires.present (sym c.loop-i.invariant ∙ turn ∙ ap (λ a. chosen (a ∷ later) (answers (drop i branches) v) other) absent)),
+          (
+            standing_at c.args.vantage conditions i condition all_stand inside c.condition-item.is,
+            c.requires.interval,
+          ),
+        ),
+      ),
+    )
+
+pub value_seen-value_seen-requires-then-holds : goal.value_seen-value_seen-requires-then-holds
+value_seen-value_seen-requires-then-holds g t c κs within =
+    let v = seen_from c.args.vantage (g.V.Lookup.views c.args.values.now) in
+    let i = c.loop-i.i in let conditions = c.as_slice-condition-items.result.now in let branches = c.as_slice-branches.result.now in
+    let other = value_of c.in-If.other v in let condition = c.condition-item.result in
+    let inside : i < length conditions = omega (arith, c.loop-i-test.true) in
+    let later = answers (drop (suc i) conditions) v in
+    let turn : chosen (answers (drop i conditions) v) (answers (drop i branches) v) other ≡ chosen (value_of condition v ∷ later) (answers (drop i branches) v) other =
+    ap (λ cs. chosen (answers cs v) (answers (drop i branches) v) other) (dropped_at conditions i condition inside c.condition-item.is) in
+    let holds = c.in-Bool.holds in
+    let is_bool : value_of condition v ≡ Is (value.Bool holds) = sym c.in_ok-holds-in-If.ensures ∙ ap Is c.in-Bool.is in
+    let from : value_of c.args.expr.now v ≡ chosen (Is (value.Bool holds) ∷ later) (answers (drop i branches) v) other =
+    sym c.loop-i.invariant ∙ turn ∙ ap (λ a. chosen (a ∷ later) (answers (drop i branches) v) other) is_bool in
+    let some = branch_at holds later branches i other v (λ absent. c.requires.present (from ∙ absent)) in
+    let standing = If_standing c.args.vantage c.args.expr.now c.in-If.conditions c.in-If.branches c.in-If.other c.in-If.is c.requires.standing in
+    let size = ap nodes c.in-If.is ∙ nodes-If c.in-If.conditions c.in-If.branches c.in-If.other in
+    let branch = c.index-branches-i.result in
+    let few = nodes_within branches i branch some c.index-branches-i.is in
+    let same = ap all_nodes c.as_slice-branches.ensures in
+    let all_stand : all_may_stand c.args.vantage branches ≡ true = rw c.as_slice-branches.ensures standing.1 in
+    let taken : value_of c.args.expr.now v ≡ value_of branch v =
+    from ∙ ap (λ bs. chosen (Is (value.Bool holds) ∷ later) (answers bs v) other) (dropped_at branches i branch some c.index-branches-i.is)
+    ∙ chosen_true holds later (value_of branch v) (answers (drop (suc i) branches) v) other c.if-holds.true in (
+      omega (arith, c.decreases, size, few, same),
+      (
+        search rules,
+        (
+          (λ absent. c.requires.present (taken ∙ absent)),
+          (
+            standing_at c.args.vantage branches i branch all_stand some c.index-branches-i.is,
+            c.requires.interval,
+          ),
+        ),
+      ),
+    )
+
+pub value_seen-loop-i-preserved : goal.value_seen-loop-i-preserved
+value_seen-loop-i-preserved g t c =
+    let v = seen_from c.args.vantage (g.V.Lookup.views c.args.values.now) in
+    let i = c.loop-i.i in let conditions = c.as_slice-condition-items.result.now in let branches = c.as_slice-branches.result.now in
+    let other = value_of c.in-If.other v in let condition = c.condition-item.result in
+    let within : i < length conditions = omega (arith, c.loop-i-test.true) in
+    let later = answers (drop (suc i) conditions) v in
+    let turn : chosen (answers (drop i conditions) v) (answers (drop i branches) v) other ≡ chosen (value_of condition v ∷ later) (answers (drop i branches) v) other =
+    ap (λ cs. chosen (answers cs v) (answers (drop i branches) v) other) (dropped_at conditions i condition within c.condition-item.is) in
+    let holds = c.in-Bool.holds in
+    let is_bool : value_of condition v ≡ Is (value.Bool holds) = sym c.in_ok-holds-in-If.ensures ∙ ap Is c.in-Bool.is in
+    let from : value_of c.args.expr.now v ≡ chosen (Is (value.Bool holds) ∷ later) (answers (drop i branches) v) other =
+    sym c.loop-i.invariant ∙ turn ∙ ap (λ a. chosen (a ∷ later) (answers (drop i branches) v) other) is_bool in
+    let some = branch_at holds later branches i other v (λ absent. c.requires.present (from ∙ absent)) in
+    let passed : value_of c.args.expr.now v ≡ chosen later (answers (drop (suc i) branches) v) other =
+    from ∙ ap (λ bs. chosen (Is (value.Bool holds) ∷ later) (answers bs v) other) (drop-cons branches i condition some)
+    ∙ chosen_false holds later (value_of (get_or branches i condition) v) (answers (drop (suc i) branches) v) other c.if-holds.false in
+    rw add-one (sym passed)
+
+pub value_seen-value_seen-requires-in-If : goal.value_seen-value_seen-requires-in-If
+value_seen-value_seen-requires-in-If g t c κs within =
+    let v = seen_from c.args.vantage (g.V.Lookup.views c.args.values.now) in
+    let i = c.loop-i.i in let conditions = c.as_slice-condition-items.result.now in let branches = c.as_slice-branches.result.now in
+    let other = value_of c.in-If.other v in
+    let standing = If_standing c.args.vantage c.args.expr.now c.in-If.conditions c.in-If.branches c.in-If.other c.in-If.is c.requires.standing in
+    let size = ap nodes c.in-If.is ∙ nodes-If c.in-If.conditions c.in-If.branches c.in-If.other in
+    let same = ap nodes c.get-in-If.ensures in
+    let left : value_of c.args.expr.now v ≡ other =
+    sym c.loop-i.invariant ∙ ap (λ cs. chosen (answers cs v) (answers (drop i branches) v) other) (drop_all i conditions c.loop-i-test.false) in (
+      omega (arith, c.decreases, size, same),
+      (
+        search rules,
+        (
+          rw c.get-in-If.ensures (λ absent. c.requires.present (left ∙ absent)),
+          (
+            rw c.get-in-If.ensures standing.2,
+            c.requires.interval,
+          ),
+        ),
+      ),
+    )
+
+pub value_seen-call_value-requires : goal.value_seen-call_value-requires
+value_seen-call_value-requires g t c κs within =
+    let present = rw (c.in-Apply.is, value_of-Apply) at c.requires.present in
+    let standing = rw (c.in-Apply.is, may_stand-Apply) at c.requires.standing in
+    let size = ap nodes c.in-Apply.is ∙ nodes-Apply c.in-Apply.function c.in-Apply.parts in
+    let same = ap all_nodes c.as_slice-in-Apply.ensures in
+    (omega (arith, c.decreases, size, same), (search rules, (rw c.as_slice-in-Apply.ensures present, (rw c.as_slice-in-Apply.ensures standing, c.requires.interval))))
+
+pub value_seen-value_seen-requires-in-Sample : goal.value_seen-value_seen-requires-in-Sample
+value_seen-value_seen-requires-in-Sample g t c κs within =
+    let views = g.V.Lookup.views c.args.values.now in
+    let present = rw (c.in-Sample.is, value_of-Sample) at c.requires.present in
+    let standing = rw (c.in-Sample.is, may_stand-Sample) at c.requires.standing in
+    let outside = first_holds (outside_samples c.args.vantage) (may_stand c.in-Sample.part Left) standing in
+    let inside = second_holds (outside_samples c.args.vantage) (may_stand c.in-Sample.part Left) standing in
+    let size = ap nodes c.in-Sample.is ∙ nodes-Sample c.in-Sample.part c.in-Sample.field-1 in
+    let same = ap nodes c.get-in-Sample.ensures in (
+      omega (arith, c.decreases, size, same),
+      (
+        search rules,
+        (
+          rw c.get-in-Sample.ensures (λ absent. present (sampled c.args.vantage views c.in-Sample.part outside ∙ absent)),
+          (
+            rw c.get-in-Sample.ensures inside,
+            c.requires.interval,
+          ),
+        ),
+      ),
+    )

@@ -1,0 +1,316 @@
+ghost use Rattle.std.specs.Prelude.{◌≡◌, ◌≢◌, [], ◌∷◌, true, IfOk};
+ghost use Rattle.sync_values.specs.Relation.{AreAlike};
+ghost use Rattle.sync_values.specs.declared.value.Value.TheVariants as value;
+ghost use Rattle.flat_model.specs.declared.evaluate.Vantage.{Vantage};
+ghost use Rattle.flat_model.specs.Operators.{Fails};
+ghost use Rattle.flat_model.specs.Views.{Views};
+ghost use Rattle.flat_model.specs.Meaning.{value_of};
+ghost use Rattle.flat_model.specs.Samples.{may_stand};
+
+use crate::*;
+use rational_time::{Ratio, make};
+use sqlite_items::Boxed;
+use std::alloc::{AllocError, Global};
+use std::test::Fail as Failure;
+use sync_values::{ChainOp, Fail, List, Rel, Value};
+
+/// At the moment name n has the value n, at its tick before 100 + n and at its last tick 200 + n. At the moment before
+/// each value is 1000 more.
+#[derive(Drop)]
+struct Shown {
+    period: Ratio,
+}
+
+impl Lookup for Shown {
+    ghost use Rattle.std.specs.Prelude.{Some, ◌+◌, ◌*◌, pos, false};
+    ghost use Rattle.sync_values.specs.declared.value.Value.TheVariants as value;
+    ghost use Rattle.flat_model.specs.declared.clock.Elapsed.TheVariants.{Period};
+    ghost use Rattle.flat_model.specs.Intervals.{length_of};
+
+    ghost views = { λ s back. record { now = λ x. Some (value.Int (pos (x + 1000 * back))); previous = λ x. Some (value.Int (pos (x + 100 + 1000 * back))); last = λ x. Some (value.Int (pos (x + 200 + 1000 * back))); first = false; interval = length_of (Period s.period) } };
+
+    ghost elapsed = { λ s. Period s.period };
+
+    fn now(&self, name: u32) -> Option<Value> {
+        Some(Value::Int(i64::from(name)))
+    }
+
+    fn previous(&self, name: u32) -> Value {
+        Value::Int(i64::from(name) + 100)
+    }
+
+    fn last(&self, name: u32) -> Value {
+        Value::Int(i64::from(name) + 200)
+    }
+
+    fn left_now(&self, name: u32) -> Option<Value> {
+        Some(Value::Int(i64::from(name) + 1000))
+    }
+
+    fn left_last(&self, name: u32) -> Value {
+        Value::Int(i64::from(name) + 1200)
+    }
+
+    fn first(&self) -> bool {
+        false
+    }
+
+    fn interval(&self) -> Elapsed {
+        Elapsed::Period(self.period)
+    }
+}
+
+fn at_moment() -> Shown {
+    Shown { period: make(3, 2) }
+}
+
+/// The value of `a op b`.
+#[tactic(auto, using(crate::proofs::Values::values, crate::proofs::Standings::standings))]
+fn chain(alloc: Global, op: ChainOp, a: i64, b: i64) -> Result<Result<Value, Fail>, AllocError>
+    requires over { op ≢ ChainOp.Over }
+    requires and { op ≢ ChainOp.And }
+    requires or { op ≢ ChainOp.Or }
+{
+    let parts = vec![in alloc; Expr::Const(Value::Int(a)), Expr::Const(Value::Int(b))]?;
+    let ops = vec![in alloc; op]?;
+    let expr = Expr::Chain(List::from_vec(parts), List::from_vec(ops));
+    Ok(eval(&expr, &at_moment()))
+}
+
+/// The value of a function of two numbers.
+#[tactic(auto, using(crate::proofs::Values::values, crate::proofs::Standings::standings))]
+fn call(alloc: Global, function: Fun, a: i64, b: i64) -> Result<Result<Value, Fail>, AllocError>
+    requires { function ≢ Fun.Abs }
+{
+    let parts = vec![in alloc; Expr::Const(Value::Int(a)), Expr::Const(Value::Int(b))]?;
+    let expr = Expr::Apply(function, List::from_vec(parts));
+    Ok(eval(&expr, &at_moment()))
+}
+
+/// The value of `a rel b`.
+#[tactic(auto, using(crate::proofs::Values::values, crate::proofs::Standings::standings))]
+fn relation(alloc: Global, rel: Rel, a: Value, b: Value) -> Result<Result<Value, Fail>, AllocError>
+    requires { AreAlike a b }
+{
+    let left = Boxed::new(alloc, Expr::Const(a))?;
+    let right = Boxed::new(alloc, Expr::Const(b))?;
+    Ok(eval(&Expr::Relation(rel, left, right), &at_moment()))
+}
+
+#[test]
+fn numbers_at_the_edges(rt: HostRuntime) -> Result<(), Failure> {
+    const DIVIDE: Result<i64, Fail> = Err(Fail::Divide);
+    const LARGE: Result<i64, Fail> = Err(Fail::TooLarge);
+    let alloc = rt.alloc();
+    for (a, b, [plus, minus, times], [quotient, modulus, rest], [least, greatest]) in [
+        (
+            7,
+            -2,
+            [Ok(5), Ok(9), Ok(-14)],
+            [Ok(-3), Ok(-1), Ok(1)],
+            [-2, 7],
+        ),
+        (
+            -7,
+            2,
+            [Ok(-5), Ok(-9), Ok(-14)],
+            [Ok(-3), Ok(1), Ok(-1)],
+            [-7, 2],
+        ),
+        (
+            5,
+            0,
+            [Ok(5), Ok(5), Ok(0)],
+            [DIVIDE, DIVIDE, DIVIDE],
+            [0, 5],
+        ),
+        (
+            i64::MIN,
+            -1,
+            [LARGE, Ok(-i64::MAX), LARGE],
+            [LARGE, Ok(0), Ok(0)],
+            [i64::MIN, -1],
+        ),
+        (
+            i64::MAX,
+            1,
+            [LARGE, Ok(i64::MAX - 1), Ok(i64::MAX)],
+            [Ok(i64::MAX), Ok(0), Ok(0)],
+            [1, i64::MAX],
+        ),
+        (
+            0,
+            i64::MIN,
+            [Ok(i64::MIN), LARGE, Ok(0)],
+            [Ok(0), Ok(0), Ok(0)],
+            [i64::MIN, 0],
+        ),
+    ] {
+        assert_eq!(rt;
+            chain(alloc, ChainOp::Plus, a, b)?,
+            plus.map(Value::Int),
+            "{a} + {b}"
+        );
+        assert_eq!(rt;
+            chain(alloc, ChainOp::Minus, a, b)?,
+            minus.map(Value::Int),
+            "{a} - {b}"
+        );
+        assert_eq!(rt;
+            chain(alloc, ChainOp::Times, a, b)?,
+            times.map(Value::Int),
+            "{a} * {b}"
+        );
+        assert_eq!(rt;
+            call(alloc, Fun::Div, a, b)?,
+            quotient.map(Value::Int),
+            "div({a}, {b})"
+        );
+        assert_eq!(rt;
+            call(alloc, Fun::Mod, a, b)?,
+            modulus.map(Value::Int),
+            "mod({a}, {b})"
+        );
+        assert_eq!(rt;
+            call(alloc, Fun::Rem, a, b)?,
+            rest.map(Value::Int),
+            "rem({a}, {b})"
+        );
+        assert_eq!(rt;
+            call(alloc, Fun::Min, a, b)?,
+            Ok(Value::Int(least)),
+            "min({a}, {b})"
+        );
+        assert_eq!(rt;
+            call(alloc, Fun::Max, a, b)?,
+            Ok(Value::Int(greatest)),
+            "max({a}, {b})"
+        );
+    }
+    for (a, b, less, equal) in [
+        (false, true, true, false),
+        (true, false, false, false),
+        (true, true, false, true),
+    ] {
+        let (a, b) = (Value::Bool(a), Value::Bool(b));
+        assert_eq!(rt;
+            relation(alloc, Rel::Less, a, b)?,
+            Ok(Value::Bool(less)),
+            "{a:?} < {b:?}"
+        );
+        assert_eq!(rt;
+            relation(alloc, Rel::GreaterEq, a, b)?,
+            Ok(Value::Bool(!less)),
+            "{a:?} >= {b:?}"
+        );
+        assert_eq!(rt;
+            relation(alloc, Rel::Equal, a, b)?,
+            Ok(Value::Bool(equal)),
+            "{a:?} == {b:?}"
+        );
+    }
+    Ok(())
+}
+
+/// An expression that fails: `div(1, 0)`, or the number below the least with its sign turned.
+#[tactic(auto, using(crate::proofs::Values::values, crate::proofs::Standings::standings))]
+fn failing(alloc: Global, kind: Fail) -> Result<Expr, AllocError>
+    ensures fails { IfOk result (λ e. (views : Views) → value_of e views ≡ Fails kind) }
+    ensures plain { IfOk result (λ e. (vantage : Vantage) → may_stand e vantage ≡ true) }
+{
+    match kind {
+        Fail::Divide => {
+            let parts = vec![in alloc; Expr::Const(Value::Int(1)), Expr::Const(Value::Int(0))]?;
+            Ok(Expr::Apply(Fun::Div, List::from_vec(parts)))
+        }
+        Fail::TooLarge => {
+            let least = Boxed::new(alloc, Expr::Const(Value::Int(i64::MIN)))?;
+            Ok(Expr::Neg(least))
+        }
+    }
+}
+
+/// The value of `b op div(1, 0)`.
+#[tactic(auto, using(crate::proofs::Values::values, crate::proofs::Standings::standings))]
+fn short_circuit(alloc: Global, b: bool, op: ChainOp) -> Result<Result<Value, Fail>, AllocError> {
+    let parts = vec![in alloc; Expr::Const(Value::Bool(b)), failing(alloc, Fail::Divide)?]?;
+    let ops = vec![in alloc; op]?;
+    let expr = Expr::Chain(List::from_vec(parts), List::from_vec(ops));
+    Ok(eval(&expr, &at_moment()))
+}
+
+/// The value of `if b then div(1, 0) else 2`.
+#[tactic(auto, using(crate::proofs::Values::values, crate::proofs::Standings::standings))]
+fn choice(alloc: Global, b: bool) -> Result<Result<Value, Fail>, AllocError> {
+    let conditions = vec![in alloc; Expr::Const(Value::Bool(b))]?;
+    let branches = vec![in alloc; failing(alloc, Fail::Divide)?]?;
+    let other = Boxed::new(alloc, Expr::Const(Value::Int(2)))?;
+    let expr = Expr::If(List::from_vec(conditions), List::from_vec(branches), other);
+    Ok(eval(&expr, &at_moment()))
+}
+
+/// The value of the sum of two expressions that fail.
+#[tactic(auto, using(crate::proofs::Values::values, crate::proofs::Standings::standings))]
+fn two_failures(
+    alloc: Global,
+    first: Fail,
+    second: Fail,
+) -> Result<Result<Value, Fail>, AllocError> {
+    let parts = vec![in alloc; failing(alloc, first)?, failing(alloc, second)?]?;
+    let ops = vec![in alloc; ChainOp::Plus]?;
+    let expr = Expr::Chain(List::from_vec(parts), List::from_vec(ops));
+    Ok(eval(&expr, &at_moment()))
+}
+
+#[test]
+fn only_what_is_needed(rt: HostRuntime) -> Result<(), Failure> {
+    const DIVIDE: Result<Value, Fail> = Err(Fail::Divide);
+    const LARGE: Result<Value, Fail> = Err(Fail::TooLarge);
+    let alloc = rt.alloc();
+    assert_eq!(rt;
+        short_circuit(alloc, true, ChainOp::Or)?,
+        Ok(Value::Bool(true))
+    );
+    assert_eq!(rt; short_circuit(alloc, false, ChainOp::Or)?, DIVIDE);
+    assert_eq!(rt;
+        short_circuit(alloc, false, ChainOp::And)?,
+        Ok(Value::Bool(false))
+    );
+    assert_eq!(rt; short_circuit(alloc, true, ChainOp::And)?, DIVIDE);
+    assert_eq!(rt; choice(alloc, false)?, Ok(Value::Int(2)));
+    assert_eq!(rt; choice(alloc, true)?, DIVIDE);
+    assert_eq!(rt; two_failures(alloc, Fail::Divide, Fail::TooLarge)?, DIVIDE);
+    assert_eq!(rt; two_failures(alloc, Fail::TooLarge, Fail::Divide)?, LARGE);
+    Ok(())
+}
+
+/// The value of `sample` of a name.
+#[tactic(auto, using(crate::proofs::Values::values, crate::proofs::Standings::standings))]
+fn sampled(alloc: Global, name: u32) -> Result<Result<Value, Fail>, AllocError> {
+    let part = Boxed::new(alloc, Expr::Read(name))?;
+    Ok(eval(&Expr::Sample(part, None), &at_moment()))
+}
+
+#[test]
+#[tactic(auto, using(crate::proofs::Values::values, crate::proofs::Standings::standings))]
+fn names_from_a_moment(rt: HostRuntime) -> Result<(), Failure> {
+    let values = at_moment();
+    assert_eq!(rt; eval(&Expr::Read(7), &values), Ok(Value::Int(7)));
+    assert_eq!(rt; eval(&Expr::Previous(7), &values), Ok(Value::Int(107)));
+    assert_eq!(rt; eval(&Expr::Hold(7), &values), Ok(Value::Int(207)));
+    assert_eq!(rt;
+        eval(&Expr::Convert(Conversion::NoClock, 7), &values),
+        Ok(Value::Int(207))
+    );
+    assert_eq!(rt; sampled(rt.alloc(), 7)?, Ok(Value::Int(1007)));
+    assert_eq!(rt;
+        eval(&Expr::FirstTick(None), &values),
+        Ok(Value::Bool(false))
+    );
+    assert_eq!(rt;
+        eval(&Expr::IntervalTimes(None, 3), &values),
+        Ok(Value::Int(4))
+    );
+    tick_law();
+    Ok(())
+}

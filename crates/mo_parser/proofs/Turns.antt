@@ -1,0 +1,38 @@
+-- A recursion on a count of turns, beside a loop that counts up.
+use Rattle.std.proofs.Common.{◌≡◌, ◌⊎◌, inl, inr, ℕ, zero, suc, ◌+◌, ◌-◌, ◌<◌, ◌≤◌, Bool, true, false, List, Result, Err, ap, sym, subst, ◌∙◌, refl, arith}
+use Rattle.mo_lexer.specs.declared.token.Token.{Token}
+use Rattle.mo_parser.specs.declared.grammar.tokens.Halt.{Halt}
+use Rattle.mo_parser.specs.declared.grammar.tokens.Halt.TheVariants as halt
+use Rattle.mo_parser.specs.reading.Outcomes.{Outcome, Parser, Read, Reads, and_then, head, turns}
+
+module _ {A : Type 0} {e : Outcome A} (test : Token → Bool) (step : A → Parser A) (n at : ℕ) where
+  one_more : (x : A) (ts : List Token) → at < n → e ≡ turns test step (n - at) x ts → test (head ts) ≡ true → e ≡ and_then (step x ts) (turns test step (n - (at + 1)))
+  unfolding turns
+  one_more x ts below is goes =
+      let turn : n - at ≡ suc (n - (at + 1)) = omega arith in is ∙ ap (λ m. turns test step m x ts) turn ∙ rw goes refl
+
+  -- one turn of the loop, which read y before the tokens rest
+  pub turned : (x y : A) (ts rest : List Token) → at < n → e ≡ turns test step (n - at) x ts → test (head ts) ≡ true → step x ts ≡ Read y rest → e ≡ turns test step (n - (at + 1)) y rest
+  turned x y ts rest below is goes one = one_more x ts below is goes ∙ ap (λ (o : Outcome A). and_then o (turns test step (n - (at + 1)))) one
+
+  -- a turn that read nothing
+  pub failed : (x : A) (ts rest : List Token) (r : Result A Halt) (h : Halt) → at < n → e ≡ turns test step (n - at) x ts → test (head ts) ≡ true → Reads (step x ts) (Err h) rest → r ≡ Err h → Reads e r rest
+  failed x ts rest r h below is goes none same = let Q : Result A Halt → Type 0 = λ r. Reads e r rest in subst Q (sym same) (by h none)
+    where
+      by : (h : Halt) → Reads (step x ts) (Err h) rest → Reads e (Err h) rest
+      by halt.NoMemory none = tt
+      by halt.Stuck none = one_more x ts below is goes ∙ ap (λ (o : Outcome A). and_then o (turns test step (n - (at + 1)))) none
+      by halt.Deep none = one_more x ts below is goes ∙ ap (λ (o : Outcome A). and_then o (turns test step (n - (at + 1)))) none
+
+  -- the end of the loop
+  pub ended : (x : A) (ts : List Token) → e ≡ turns test step (n - at) x ts → (n ≤ at) ⊎ (test (head ts) ≡ false) → e ≡ Read x ts
+  unfolding turns
+  ended x ts is (inl all) = let none : n - at ≡ 0 = omega arith in is ∙ ap (λ m. turns test step m x ts) none
+  ended x ts is (inr stops) = is ∙ at_once (n - at)
+    where
+      at_once : (k : ℕ) → turns test step k x ts ≡ Read x ts
+      at_once zero = refl
+      at_once (suc k) = rw stops refl
+
+pub deeper : {X : Type 0} (f : ℕ → X) (n : ℕ) → 0 < n → f n ≡ f (suc (n - 1))
+deeper f n some = let e : n ≡ suc (n - 1) = omega arith in ap f e

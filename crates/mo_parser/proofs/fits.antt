@@ -1,0 +1,10 @@
+pub mod Tests
+pub mod Names
+pub mod Operators
+pub mod Expressions
+pub mod Nested
+pub mod Words
+pub mod Comments
+pub mod Modifications
+pub mod Elements
+pub mod Classes

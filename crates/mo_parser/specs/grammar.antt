@@ -1,0 +1,12 @@
+pub mod Rules
+pub mod Kinds
+pub mod Names
+pub mod Trees
+pub mod Expressions
+pub mod Comments
+pub mod Modifications
+pub mod Elements
+pub mod Equations
+pub mod Classes
+pub mod Places
+pub mod Faults

@@ -1,0 +1,39 @@
+-- Names and single tokens.
+use Rattle.std.specs.Prelude.{[], ◌∷◌, ◌++◌}
+use Rattle.mo_lexer.specs.declared.token.Token.{Token}
+use Rattle.mo_lexer.specs.declared.token.Word.{Word}
+use Rattle.mo_lexer.specs.declared.token.Sym.{Sym}
+use Rattle.mo_lexer.specs.declared.token.Sym.TheVariants as s
+use Rattle.mo_parser.specs.declared.tree.Span.{Span}
+use Rattle.mo_parser.specs.declared.grammar.names.Named.{Named}
+use Rattle.mo_parser.specs.grammar.Rules.{Spelling, ◌>>=◌, ◌>>◌, gives, one, many}
+use Rattle.mo_parser.specs.grammar.Kinds.{is_symbol, is_word, is_ident, is_text, when}
+
+unfoldable pub symbol : Sym → Spelling Token
+symbol x = one (λ t. when (is_symbol x t) t)
+
+unfoldable pub word : Word → Spelling Token
+word x = one (λ t. when (is_word x t) t)
+
+unfoldable pub ident : Spelling Token
+ident = one (λ t. when (is_ident t) t)
+
+unfoldable pub text : Spelling Token
+text = one (λ t. when (is_text t) t)
+
+abbrev pub span_of : Token → Span
+span_of t = record { at = t.at; end = t.end }
+
+-- a name of one part, and one with a part more
+abbrev pub named : Token → Named
+named t = record { path = record { parts = span_of t ∷ [] }; span = span_of t }
+
+abbrev pub named_on : Named → Token → Named
+named_on n t = record { path = record { parts = n.path.parts ++ span_of t ∷ [] }; span = record { at = n.span.at; end = t.end } }
+
+-- name = Ident { "." Ident }
+unfoldable pub dotted : Named → Spelling Named
+dotted n = symbol s.Dot >> ident >>= (λ t. gives (named_on n t))
+
+unfoldable pub name : Spelling Named
+name = ident >>= (λ t. many dotted (named t))

@@ -1,0 +1,14 @@
+-- Lists of tokens that agree up to a place.
+use Rattle.std.specs.Prelude.{◌≡◌, List, ◌∷◌}
+use Rattle.mo_lexer.specs.declared.token.Token.{Token}
+use Rattle.mo_parser.specs.reading.Outcomes.{head}
+
+-- a and a' have the same tokens before b and b', and the next token there is the same
+pub data Swap : List Token → List Token → List Token → List Token → Type 0 where
+  here : (b b' : List Token) → head b ≡ head b' → Swap b b b' b'
+  there : (x : Token) (a b a' b' : List Token) → Swap a b a' b' → Swap (x ∷ a) b (x ∷ a') b'
+
+-- a' begins with the tokens that stand in a before b, and goes on with b'
+pub data Front : List Token → List Token → List Token → List Token → Type 0 where
+  start : (b b' : List Token) → Front b b b' b'
+  next : (x : Token) (a b a' b' : List Token) → Front a b a' b' → Front (x ∷ a) b (x ∷ a') b'

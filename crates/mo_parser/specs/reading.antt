@@ -1,0 +1,9 @@
+pub mod Outcomes
+pub mod Names
+pub mod Expressions
+pub mod Comments
+pub mod Modifications
+pub mod Elements
+pub mod Equations
+pub mod Classes
+pub mod Nests

@@ -1,0 +1,128 @@
+//! Equations of classes.
+ghost use Rattle.std.specs.Prelude.{◌≡◌, length};
+ghost use Rattle.mo_parser.specs.grammar.Kinds as kinds;
+ghost use Rattle.mo_parser.specs.reading.Outcomes.{Reads, many};
+ghost use Rattle.mo_parser.specs.reading.Equations as spec;
+
+use super::comments::comment;
+use super::elements::Reader;
+use super::expressions::{simple_expr, whole_expr};
+use super::kinds::{begins_equation, begins_simple, is_word};
+use super::names::{name, symbol, word};
+use super::tokens::{Halt, Tokens};
+use crate::tree::TreeEq;
+use mo_lexer::{Sym, Word};
+use std::alloc::Global;
+use sync_values::List;
+
+#[tactic(auto, unfolding(crate::specs::reading::Equations::connect))]
+fn connect(alloc: Global, tokens: &mut Tokens<'_>) -> Result<TreeEq, Halt>
+    ensures { Reads (spec.connect tokens.old) result tokens.new }
+{
+    word(tokens, Word::KwConnect)?;
+    symbol(tokens, Sym::RoundOpen)?;
+    let first = name(alloc, tokens)?;
+    symbol(tokens, Sym::Comma)?;
+    let second = name(alloc, tokens)?;
+    symbol(tokens, Sym::RoundClose)?;
+    Ok(TreeEq::Connect(first.path, second.path))
+}
+
+impl Reader {
+    #[tactic(auto, unfolding(crate::specs::reading::Equations::equal))]
+    fn equal(&self, tokens: &mut Tokens<'_>) -> Result<TreeEq, Halt>
+        ensures { Reads (spec.equal self.now.depth tokens.old) result tokens.new }
+    {
+        let left = simple_expr(self.alloc, tokens, self.depth)?;
+        symbol(tokens, Sym::Equals)?;
+        let right = whole_expr(self.alloc, tokens, self.depth)?;
+        Ok(TreeEq::Equal(left, right))
+    }
+
+    #[tactic(auto, unfolding(crate::specs::reading::Equations::clause_equation))]
+    fn clause_equation(
+        &self,
+        tokens: &mut Tokens<'_>,
+        mut all: List<TreeEq>,
+    ) -> Result<List<TreeEq>, Halt>
+        ensures { Reads (spec.clause_equation self.now.depth all tokens.old) result tokens.new }
+    {
+        let equation = self.equal(tokens)?;
+        comment(tokens, self.depth)?;
+        symbol(tokens, Sym::Semicolon)?;
+        all.push(equation)?;
+        Ok(all)
+    }
+
+    #[tactic(auto, unfolding(crate::specs::reading::Outcomes::turns))]
+    fn clause_equations(
+        &self,
+        tokens: &mut Tokens<'_>,
+        mut all: List<TreeEq>,
+    ) -> Result<List<TreeEq>, Halt>
+        ensures { Reads (many kinds.begins_simple (spec.clause_equation self.now.depth) all tokens.old) result tokens.new }
+    {
+        for _turn in 0..tokens.count() {
+            if !begins_simple(tokens.peek()) {
+                break;
+            }
+            all = self.clause_equation(tokens, all)?;
+        }
+        Ok(all)
+    }
+
+    #[tactic(auto, unfolding(crate::specs::reading::Equations::clause))]
+    fn clause(&self, tokens: &mut Tokens<'_>) -> Result<TreeEq, Halt>
+        ensures { Reads (spec.clause self.now.depth tokens.old) result tokens.new }
+    {
+        word(tokens, Word::KwWhen)?;
+        let clock = whole_expr(self.alloc, tokens, self.depth)?;
+        word(tokens, Word::KwThen)?;
+        let equations = self.clause_equations(tokens, List::new(self.alloc))?;
+        word(tokens, Word::KwEnd)?;
+        word(tokens, Word::KwWhen)?;
+        Ok(TreeEq::When(clock, equations))
+    }
+
+    #[tactic(auto, unfolding(crate::specs::reading::Equations::any_equation))]
+    fn any_equation(&self, tokens: &mut Tokens<'_>) -> Result<TreeEq, Halt>
+        ensures { Reads (spec.any_equation self.now.depth tokens.old) result tokens.new }
+    {
+        let next = tokens.peek();
+        if is_word(next, Word::KwWhen) {
+            self.clause(tokens)
+        } else if is_word(next, Word::KwConnect) {
+            connect(self.alloc, tokens)
+        } else {
+            self.equal(tokens)
+        }
+    }
+
+    #[tactic(auto, unfolding(crate::specs::reading::Equations::equation))]
+    fn equation(&self, tokens: &mut Tokens<'_>, mut all: List<TreeEq>) -> Result<List<TreeEq>, Halt>
+        ensures { Reads (spec.equation self.now.depth all tokens.old) result tokens.new }
+    {
+        let equation = self.any_equation(tokens)?;
+        comment(tokens, self.depth)?;
+        symbol(tokens, Sym::Semicolon)?;
+        all.push(equation)?;
+        Ok(all)
+    }
+
+    #[tactic(auto, unfolding(crate::specs::reading::Outcomes::turns))]
+    pub fn equations(
+        &self,
+        tokens: &mut Tokens<'_>,
+        mut all: List<TreeEq>,
+    ) -> Result<List<TreeEq>, Halt>
+        ensures { Reads (spec.equations self.now.depth all tokens.old) result tokens.new }
+    {
+        for _turn in 0..tokens.count() {
+            if !begins_equation(tokens.peek()) {
+                break;
+            }
+            all = self.equation(tokens, all)?;
+        }
+        Ok(all)
+    }
+}

@@ -1,0 +1,651 @@
+//! Expressions. Each rule is proved by itself: it takes the function that reads whole expressions one level deeper as a parameter.
+ghost use Rattle.std.specs.Prelude.{◌≡◌, ◌++◌, ◌∷◌, [], IfOk, IfErr, length};
+ghost use Rattle.mo_lexer.specs.declared.token.Sym.TheVariants as s;
+ghost use Rattle.mo_lexer.specs.declared.token.Word.TheVariants as w;
+ghost use Rattle.mo_parser.specs.grammar.Kinds as kinds;
+ghost use Rattle.mo_parser.specs.grammar.Trees as trees;
+ghost use Rattle.mo_parser.specs.reading.Outcomes.{Reads, many, one_by};
+ghost use Rattle.mo_parser.specs.reading.Expressions as spec;
+ghost use Rattle.mo_parser.specs.reading.Nests.{Nests};
+
+use super::kinds::{
+    and_of, is_symbol, is_word, literal_of, or_of, product_of, relation_of, sum_of,
+};
+use super::names::{Named, name, span_of, symbol, word};
+use super::parts::{Arguments, Branches, Links};
+use super::tokens::{Halt, Tokens};
+use crate::tree::{Span, TreeExpr, TreeNode};
+use mo_lexer::{Sym, Word};
+use sqlite_items::Boxed;
+use std::alloc::Global;
+use sync_values::{ChainOp, List, Rel};
+
+#[tactic(auto, unfolding(crate::specs::grammar::Trees::spanning))]
+fn spanning(node: TreeNode, at: u32, end: u32) -> TreeExpr
+    ensures { result ≡ trees.spanning node at end }
+{
+    TreeExpr {
+        node,
+        span: Span { at, end },
+    }
+}
+
+#[tactic(auto, unfolding(crate::specs::grammar::Trees::begins))]
+fn begins(expr: &TreeExpr) -> u32
+    ensures { result ≡ trees.begins expr.now }
+{
+    expr.span.at
+}
+
+#[tactic(auto, unfolding(crate::specs::grammar::Trees::ends))]
+fn ends(expr: &TreeExpr) -> u32
+    ensures { result ≡ trees.ends expr.now }
+{
+    expr.span.end
+}
+
+#[tactic(auto, unfolding(crate::specs::grammar::Trees::widened))]
+fn widened(at: u32, end: u32, expr: TreeExpr) -> TreeExpr
+    ensures { result ≡ trees.widened at end expr }
+{
+    let TreeExpr { node, span: _ } = expr;
+    spanning(node, at, end)
+}
+
+fn negated(alloc: Global, at: u32, expr: TreeExpr) -> Result<TreeExpr, Halt>
+    ensures ok { IfOk result (λ e. e ≡ trees.negated at expr) }
+    ensures err { IfErr result (λ e. e ≡ Halt.NoMemory) }
+{
+    let end = ends(&expr);
+    Ok(spanning(TreeNode::Neg(Boxed::new(alloc, expr)?), at, end))
+}
+
+fn inverted(alloc: Global, at: u32, expr: TreeExpr) -> Result<TreeExpr, Halt>
+    ensures ok { IfOk result (λ e. e ≡ trees.inverted at expr) }
+    ensures err { IfErr result (λ e. e ≡ Halt.NoMemory) }
+{
+    let end = ends(&expr);
+    Ok(spanning(TreeNode::Not(Boxed::new(alloc, expr)?), at, end))
+}
+
+fn powered(alloc: Global, base: TreeExpr, exponent: TreeExpr) -> Result<TreeExpr, Halt>
+    ensures ok { IfOk result (λ e. e ≡ trees.powered base exponent) }
+    ensures err { IfErr result (λ e. e ≡ Halt.NoMemory) }
+{
+    let at = begins(&base);
+    let end = ends(&exponent);
+    let base = Boxed::new(alloc, base)?;
+    let exponent = Boxed::new(alloc, exponent)?;
+    Ok(spanning(TreeNode::Power(base, exponent), at, end))
+}
+
+fn related(alloc: Global, rel: Rel, left: TreeExpr, right: TreeExpr) -> Result<TreeExpr, Halt>
+    ensures ok { IfOk result (λ e. e ≡ trees.related rel left right) }
+    ensures err { IfErr result (λ e. e ≡ Halt.NoMemory) }
+{
+    let at = begins(&left);
+    let end = ends(&right);
+    let left = Boxed::new(alloc, left)?;
+    let right = Boxed::new(alloc, right)?;
+    Ok(spanning(TreeNode::Relation(rel, left, right), at, end))
+}
+
+// The first part of a chain.
+fn alone(alloc: Global, first: TreeExpr) -> Result<Links, Halt>
+    ensures ok { IfOk result (λ l. l ≡ trees.alone first) }
+    ensures err { IfErr result (λ e. e ≡ Halt.NoMemory) }
+{
+    let end = ends(&first);
+    let mut parts = List::new(alloc);
+    parts.push(first)?;
+    Ok(Links {
+        parts,
+        ops: List::new(alloc),
+        end,
+    })
+}
+
+fn linked(mut links: Links, op: ChainOp, part: TreeExpr) -> Result<Links, Halt>
+    ensures ok { IfOk result (λ l. l ≡ trees.linked links op part) }
+    ensures err { IfErr result (λ e. e ≡ Halt.NoMemory) }
+{
+    links.end = ends(&part);
+    links.parts.push(part)?;
+    links.ops.push(op)?;
+    Ok(links)
+}
+
+fn chained(at: u32, links: Links) -> TreeExpr
+    ensures { result ≡ trees.chained at links }
+{
+    let Links { parts, ops, end } = links;
+    spanning(TreeNode::Chain(parts, ops), at, end)
+}
+
+fn branched(mut all: Branches, condition: TreeExpr, value: TreeExpr) -> Result<Branches, Halt>
+    ensures ok { IfOk result (λ b. b ≡ trees.branched all condition value) }
+    ensures err { IfErr result (λ e. e ≡ Halt.NoMemory) }
+{
+    all.conditions.push(condition)?;
+    all.branches.push(value)?;
+    Ok(all)
+}
+
+fn chosen(alloc: Global, at: u32, all: Branches, other: TreeExpr) -> Result<TreeExpr, Halt>
+    ensures ok { IfOk result (λ e. e ≡ trees.chosen at all other) }
+    ensures err { IfErr result (λ e. e ≡ Halt.NoMemory) }
+{
+    let end = ends(&other);
+    let other = Boxed::new(alloc, other)?;
+    let Branches {
+        conditions,
+        branches,
+    } = all;
+    Ok(spanning(TreeNode::If(conditions, branches, other), at, end))
+}
+
+#[tactic(auto, unfolding(crate::specs::reading::Expressions::literal))]
+fn literal(tokens: &mut Tokens<'_>) -> Result<TreeExpr, Halt>
+    ensures { Reads (spec.literal tokens.old) result tokens.new }
+{
+    let next = tokens.peek();
+    let Some(value) = literal_of(next) else {
+        return Err(Halt::Stuck);
+    };
+    tokens.advance();
+    Ok(spanning(TreeNode::Const(value), next.at, next.end))
+}
+
+// The operator that the next token was found to be.
+fn operator(tokens: &mut Tokens<'_>, found: Option<ChainOp>) -> Result<ChainOp, Halt>
+    ensures { Reads (one_by found tokens.old) result tokens.new }
+{
+    let Some(op) = found else {
+        return Err(Halt::Stuck);
+    };
+    tokens.advance();
+    Ok(op)
+}
+
+// The relation that the next token was found to be.
+fn relation(tokens: &mut Tokens<'_>, found: Option<Rel>) -> Result<Rel, Halt>
+    ensures { Reads (one_by found tokens.old) result tokens.new }
+{
+    let Some(rel) = found else {
+        return Err(Halt::Stuck);
+    };
+    tokens.advance();
+    Ok(rel)
+}
+
+#[derive(Clone, Copy)]
+pub struct Grammar<F> {
+    pub alloc: Global,
+    /// How many levels of brackets and if-expressions may still be opened.
+    pub depth: usize,
+    pub expr: F,
+}
+
+impl<F: Fn(Global, &mut Tokens<'_>, usize) -> Result<TreeExpr, Halt>> Grammar<F> {
+    pub fn whole(&self, tokens: &mut Tokens<'_>) -> Result<TreeExpr, Halt>
+        requires { Nests self.now.depth (F.pre self.now.expr) (F.post self.now.expr) }
+        ensures { Reads (spec.expr self.now.depth tokens.old) result tokens.new }
+    {
+        (self.expr)(self.alloc, tokens, self.depth)
+    }
+
+    #[tactic(auto, unfolding(crate::specs::reading::Expressions::inner))]
+    fn inner(&self, tokens: &mut Tokens<'_>) -> Result<TreeExpr, Halt>
+        requires { Nests self.now.depth (F.pre self.now.expr) (F.post self.now.expr) }
+        ensures { Reads (spec.inner (spec.expr self.now.depth) tokens.old) result tokens.new }
+    {
+        if is_symbol(tokens.peek(), Sym::RoundClose) {
+            return Err(Halt::Stuck);
+        }
+        self.whole(tokens)
+    }
+
+    #[tactic(auto, unfolding(crate::specs::reading::Expressions::bracketed))]
+    fn bracketed(&self, tokens: &mut Tokens<'_>) -> Result<TreeExpr, Halt>
+        requires { Nests self.now.depth (F.pre self.now.expr) (F.post self.now.expr) }
+        ensures { Reads (spec.bracketed (spec.expr self.now.depth) tokens.old) result tokens.new }
+    {
+        let first = symbol(tokens, Sym::RoundOpen)?;
+        let expr = self.inner(tokens)?;
+        let last = symbol(tokens, Sym::RoundClose)?;
+        Ok(widened(first.at, last.end, expr))
+    }
+
+    #[tactic(auto, unfolding(crate::specs::reading::Expressions::further))]
+    fn further(
+        &self,
+        tokens: &mut Tokens<'_>,
+        mut all: List<TreeExpr>,
+    ) -> Result<List<TreeExpr>, Halt>
+        requires { Nests self.now.depth (F.pre self.now.expr) (F.post self.now.expr) }
+        ensures { Reads (spec.further (spec.expr self.now.depth) all tokens.old) result tokens.new }
+    {
+        symbol(tokens, Sym::Comma)?;
+        let expr = self.whole(tokens)?;
+        all.push(expr)?;
+        Ok(all)
+    }
+
+    #[tactic(auto, unfolding(crate::specs::reading::Outcomes::turns))]
+    fn all_further(
+        &self,
+        tokens: &mut Tokens<'_>,
+        mut all: List<TreeExpr>,
+    ) -> Result<List<TreeExpr>, Halt>
+        requires { Nests self.now.depth (F.pre self.now.expr) (F.post self.now.expr) }
+        ensures { Reads (many (kinds.is_symbol s.Comma) (spec.further (spec.expr self.now.depth)) all tokens.old) result tokens.new }
+    {
+        for _turn in 0..tokens.count() {
+            if !is_symbol(tokens.peek(), Sym::Comma) {
+                break;
+            }
+            all = self.further(tokens, all)?;
+        }
+        Ok(all)
+    }
+
+    #[tactic(auto, unfolding(crate::specs::reading::Expressions::listed))]
+    fn listed(&self, tokens: &mut Tokens<'_>) -> Result<List<TreeExpr>, Halt>
+        requires { Nests self.now.depth (F.pre self.now.expr) (F.post self.now.expr) }
+        ensures { Reads (spec.listed (spec.expr self.now.depth) tokens.old) result tokens.new }
+    {
+        let first = self.whole(tokens)?;
+        let mut all = List::new(self.alloc);
+        all.push(first)?;
+        self.all_further(tokens, all)
+    }
+
+    #[tactic(auto, unfolding(crate::specs::reading::Expressions::arguments))]
+    fn arguments(&self, tokens: &mut Tokens<'_>) -> Result<Arguments, Halt>
+        requires { Nests self.now.depth (F.pre self.now.expr) (F.post self.now.expr) }
+        ensures { Reads (spec.arguments (spec.expr self.now.depth) tokens.old) result tokens.new }
+    {
+        if is_symbol(tokens.peek(), Sym::RoundClose) {
+            let last = symbol(tokens, Sym::RoundClose)?;
+            return Ok(Arguments {
+                all: List::new(self.alloc),
+                end: last.end,
+            });
+        }
+        let all = self.listed(tokens)?;
+        let last = symbol(tokens, Sym::RoundClose)?;
+        Ok(Arguments { all, end: last.end })
+    }
+
+    #[tactic(auto, unfolding(crate::specs::reading::Expressions::reference))]
+    fn reference(&self, tokens: &mut Tokens<'_>) -> Result<TreeExpr, Halt>
+        requires { Nests self.now.depth (F.pre self.now.expr) (F.post self.now.expr) }
+        ensures { Reads (spec.reference (spec.expr self.now.depth) tokens.old) result tokens.new }
+    {
+        let named = name(self.alloc, tokens)?;
+        if !is_symbol(tokens.peek(), Sym::RoundOpen) {
+            let Named { path, span } = named;
+            return Ok(spanning(TreeNode::Name(path), span.at, span.end));
+        }
+        symbol(tokens, Sym::RoundOpen)?;
+        let arguments = self.arguments(tokens)?;
+        let Named { path, span } = named;
+        Ok(spanning(TreeNode::Call(path, arguments.all), span.at, arguments.end))
+    }
+
+    #[tactic(auto, unfolding(crate::specs::reading::Expressions::primary))]
+    fn primary(&self, tokens: &mut Tokens<'_>) -> Result<TreeExpr, Halt>
+        requires { Nests self.now.depth (F.pre self.now.expr) (F.post self.now.expr) }
+        ensures { Reads (spec.primary (spec.expr self.now.depth) tokens.old) result tokens.new }
+    {
+        let next = tokens.peek();
+        if literal_of(next).is_some() {
+            literal(tokens)
+        } else if is_symbol(next, Sym::RoundOpen) {
+            self.bracketed(tokens)
+        } else {
+            self.reference(tokens)
+        }
+    }
+
+    #[tactic(auto, unfolding(crate::specs::reading::Expressions::factor))]
+    fn factor(&self, tokens: &mut Tokens<'_>) -> Result<TreeExpr, Halt>
+        requires { Nests self.now.depth (F.pre self.now.expr) (F.post self.now.expr) }
+        ensures { Reads (spec.factor (spec.expr self.now.depth) tokens.old) result tokens.new }
+    {
+        let base = self.primary(tokens)?;
+        if !is_symbol(tokens.peek(), Sym::Power) {
+            return Ok(base);
+        }
+        symbol(tokens, Sym::Power)?;
+        let exponent = self.primary(tokens)?;
+        powered(self.alloc, base, exponent)
+    }
+
+    #[tactic(auto, unfolding(crate::specs::reading::Expressions::link))]
+    fn product_link(&self, tokens: &mut Tokens<'_>, links: Links) -> Result<Links, Halt>
+        requires { Nests self.now.depth (F.pre self.now.expr) (F.post self.now.expr) }
+        ensures { Reads (spec.link kinds.product_of (spec.factor (spec.expr self.now.depth)) links tokens.old) result tokens.new }
+    {
+        let op = operator(tokens, product_of(tokens.peek()))?;
+        let part = self.factor(tokens)?;
+        linked(links, op, part)
+    }
+
+    #[tactic(auto, unfolding(crate::specs::reading::Outcomes::turns))]
+    fn more_product_links(&self, tokens: &mut Tokens<'_>, mut links: Links) -> Result<Links, Halt>
+        requires { Nests self.now.depth (F.pre self.now.expr) (F.post self.now.expr) }
+        ensures { Reads (many (spec.is_op kinds.product_of) (spec.link kinds.product_of (spec.factor (spec.expr self.now.depth))) links tokens.old) result tokens.new }
+    {
+        for _turn in 0..tokens.count() {
+            if !product_of(tokens.peek()).is_some() {
+                break;
+            }
+            links = self.product_link(tokens, links)?;
+        }
+        Ok(links)
+    }
+
+    #[tactic(auto, unfolding(crate::specs::reading::Expressions::links))]
+    fn product_links(&self, tokens: &mut Tokens<'_>, first: TreeExpr) -> Result<TreeExpr, Halt>
+        requires { Nests self.now.depth (F.pre self.now.expr) (F.post self.now.expr) }
+        ensures { Reads (spec.links kinds.product_of (spec.factor (spec.expr self.now.depth)) first tokens.old) result tokens.new }
+    {
+        if !product_of(tokens.peek()).is_some() {
+            return Ok(first);
+        }
+        let at = begins(&first);
+        let links = self.product_link(tokens, alone(self.alloc, first)?)?;
+        let links = self.more_product_links(tokens, links)?;
+        Ok(chained(at, links))
+    }
+
+    #[tactic(auto, unfolding(crate::specs::reading::Expressions::term))]
+    fn term(&self, tokens: &mut Tokens<'_>) -> Result<TreeExpr, Halt>
+        requires { Nests self.now.depth (F.pre self.now.expr) (F.post self.now.expr) }
+        ensures { Reads (spec.term (spec.expr self.now.depth) tokens.old) result tokens.new }
+    {
+        let first = self.factor(tokens)?;
+        self.product_links(tokens, first)
+    }
+
+    #[tactic(auto, unfolding(crate::specs::reading::Expressions::signed))]
+    fn signed(&self, tokens: &mut Tokens<'_>) -> Result<TreeExpr, Halt>
+        requires { Nests self.now.depth (F.pre self.now.expr) (F.post self.now.expr) }
+        ensures { Reads (spec.signed (spec.expr self.now.depth) tokens.old) result tokens.new }
+    {
+        let next = tokens.peek();
+        if is_symbol(next, Sym::Plus) {
+            let sign = symbol(tokens, Sym::Plus)?;
+            let part = self.term(tokens)?;
+            let end = ends(&part);
+            return Ok(widened(sign.at, end, part));
+        }
+        if is_symbol(next, Sym::Minus) {
+            let sign = symbol(tokens, Sym::Minus)?;
+            let part = self.term(tokens)?;
+            return negated(self.alloc, sign.at, part);
+        }
+        self.term(tokens)
+    }
+
+    #[tactic(auto, unfolding(crate::specs::reading::Expressions::link))]
+    fn sum_link(&self, tokens: &mut Tokens<'_>, links: Links) -> Result<Links, Halt>
+        requires { Nests self.now.depth (F.pre self.now.expr) (F.post self.now.expr) }
+        ensures { Reads (spec.link kinds.sum_of (spec.term (spec.expr self.now.depth)) links tokens.old) result tokens.new }
+    {
+        let op = operator(tokens, sum_of(tokens.peek()))?;
+        let part = self.term(tokens)?;
+        linked(links, op, part)
+    }
+
+    #[tactic(auto, unfolding(crate::specs::reading::Outcomes::turns))]
+    fn more_sum_links(&self, tokens: &mut Tokens<'_>, mut links: Links) -> Result<Links, Halt>
+        requires { Nests self.now.depth (F.pre self.now.expr) (F.post self.now.expr) }
+        ensures { Reads (many (spec.is_op kinds.sum_of) (spec.link kinds.sum_of (spec.term (spec.expr self.now.depth))) links tokens.old) result tokens.new }
+    {
+        for _turn in 0..tokens.count() {
+            if !sum_of(tokens.peek()).is_some() {
+                break;
+            }
+            links = self.sum_link(tokens, links)?;
+        }
+        Ok(links)
+    }
+
+    #[tactic(auto, unfolding(crate::specs::reading::Expressions::links))]
+    fn sum_links(&self, tokens: &mut Tokens<'_>, first: TreeExpr) -> Result<TreeExpr, Halt>
+        requires { Nests self.now.depth (F.pre self.now.expr) (F.post self.now.expr) }
+        ensures { Reads (spec.links kinds.sum_of (spec.term (spec.expr self.now.depth)) first tokens.old) result tokens.new }
+    {
+        if !sum_of(tokens.peek()).is_some() {
+            return Ok(first);
+        }
+        let at = begins(&first);
+        let links = self.sum_link(tokens, alone(self.alloc, first)?)?;
+        let links = self.more_sum_links(tokens, links)?;
+        Ok(chained(at, links))
+    }
+
+    #[tactic(auto, unfolding(crate::specs::reading::Expressions::arith))]
+    fn arith(&self, tokens: &mut Tokens<'_>) -> Result<TreeExpr, Halt>
+        requires { Nests self.now.depth (F.pre self.now.expr) (F.post self.now.expr) }
+        ensures { Reads (spec.arith (spec.expr self.now.depth) tokens.old) result tokens.new }
+    {
+        let first = self.signed(tokens)?;
+        self.sum_links(tokens, first)
+    }
+
+    #[tactic(auto, unfolding(crate::specs::reading::Expressions::rel))]
+    fn rel(&self, tokens: &mut Tokens<'_>) -> Result<TreeExpr, Halt>
+        requires { Nests self.now.depth (F.pre self.now.expr) (F.post self.now.expr) }
+        ensures { Reads (spec.rel (spec.expr self.now.depth) tokens.old) result tokens.new }
+    {
+        let left = self.arith(tokens)?;
+        if !relation_of(tokens.peek()).is_some() {
+            return Ok(left);
+        }
+        let rel = relation(tokens, relation_of(tokens.peek()))?;
+        let right = self.arith(tokens)?;
+        related(self.alloc, rel, left, right)
+    }
+
+    #[tactic(auto, unfolding(crate::specs::reading::Expressions::lit))]
+    fn lit(&self, tokens: &mut Tokens<'_>) -> Result<TreeExpr, Halt>
+        requires { Nests self.now.depth (F.pre self.now.expr) (F.post self.now.expr) }
+        ensures { Reads (spec.lit (spec.expr self.now.depth) tokens.old) result tokens.new }
+    {
+        if !is_word(tokens.peek(), Word::KwNot) {
+            return self.rel(tokens);
+        }
+        let not_word = word(tokens, Word::KwNot)?;
+        let expr = self.rel(tokens)?;
+        inverted(self.alloc, not_word.at, expr)
+    }
+
+    #[tactic(auto, unfolding(crate::specs::reading::Expressions::link))]
+    fn and_link(&self, tokens: &mut Tokens<'_>, links: Links) -> Result<Links, Halt>
+        requires { Nests self.now.depth (F.pre self.now.expr) (F.post self.now.expr) }
+        ensures { Reads (spec.link kinds.and_of (spec.lit (spec.expr self.now.depth)) links tokens.old) result tokens.new }
+    {
+        let op = operator(tokens, and_of(tokens.peek()))?;
+        let part = self.lit(tokens)?;
+        linked(links, op, part)
+    }
+
+    #[tactic(auto, unfolding(crate::specs::reading::Outcomes::turns))]
+    fn more_and_links(&self, tokens: &mut Tokens<'_>, mut links: Links) -> Result<Links, Halt>
+        requires { Nests self.now.depth (F.pre self.now.expr) (F.post self.now.expr) }
+        ensures { Reads (many (spec.is_op kinds.and_of) (spec.link kinds.and_of (spec.lit (spec.expr self.now.depth))) links tokens.old) result tokens.new }
+    {
+        for _turn in 0..tokens.count() {
+            if !and_of(tokens.peek()).is_some() {
+                break;
+            }
+            links = self.and_link(tokens, links)?;
+        }
+        Ok(links)
+    }
+
+    #[tactic(auto, unfolding(crate::specs::reading::Expressions::links))]
+    fn and_links(&self, tokens: &mut Tokens<'_>, first: TreeExpr) -> Result<TreeExpr, Halt>
+        requires { Nests self.now.depth (F.pre self.now.expr) (F.post self.now.expr) }
+        ensures { Reads (spec.links kinds.and_of (spec.lit (spec.expr self.now.depth)) first tokens.old) result tokens.new }
+    {
+        if !and_of(tokens.peek()).is_some() {
+            return Ok(first);
+        }
+        let at = begins(&first);
+        let links = self.and_link(tokens, alone(self.alloc, first)?)?;
+        let links = self.more_and_links(tokens, links)?;
+        Ok(chained(at, links))
+    }
+
+    #[tactic(auto, unfolding(crate::specs::reading::Expressions::conj))]
+    fn conj(&self, tokens: &mut Tokens<'_>) -> Result<TreeExpr, Halt>
+        requires { Nests self.now.depth (F.pre self.now.expr) (F.post self.now.expr) }
+        ensures { Reads (spec.conj (spec.expr self.now.depth) tokens.old) result tokens.new }
+    {
+        let first = self.lit(tokens)?;
+        self.and_links(tokens, first)
+    }
+
+    #[tactic(auto, unfolding(crate::specs::reading::Expressions::link))]
+    fn or_link(&self, tokens: &mut Tokens<'_>, links: Links) -> Result<Links, Halt>
+        requires { Nests self.now.depth (F.pre self.now.expr) (F.post self.now.expr) }
+        ensures { Reads (spec.link kinds.or_of (spec.conj (spec.expr self.now.depth)) links tokens.old) result tokens.new }
+    {
+        let op = operator(tokens, or_of(tokens.peek()))?;
+        let part = self.conj(tokens)?;
+        linked(links, op, part)
+    }
+
+    #[tactic(auto, unfolding(crate::specs::reading::Outcomes::turns))]
+    fn more_or_links(&self, tokens: &mut Tokens<'_>, mut links: Links) -> Result<Links, Halt>
+        requires { Nests self.now.depth (F.pre self.now.expr) (F.post self.now.expr) }
+        ensures { Reads (many (spec.is_op kinds.or_of) (spec.link kinds.or_of (spec.conj (spec.expr self.now.depth))) links tokens.old) result tokens.new }
+    {
+        for _turn in 0..tokens.count() {
+            if !or_of(tokens.peek()).is_some() {
+                break;
+            }
+            links = self.or_link(tokens, links)?;
+        }
+        Ok(links)
+    }
+
+    #[tactic(auto, unfolding(crate::specs::reading::Expressions::links))]
+    fn or_links(&self, tokens: &mut Tokens<'_>, first: TreeExpr) -> Result<TreeExpr, Halt>
+        requires { Nests self.now.depth (F.pre self.now.expr) (F.post self.now.expr) }
+        ensures { Reads (spec.links kinds.or_of (spec.conj (spec.expr self.now.depth)) first tokens.old) result tokens.new }
+    {
+        if !or_of(tokens.peek()).is_some() {
+            return Ok(first);
+        }
+        let at = begins(&first);
+        let links = self.or_link(tokens, alone(self.alloc, first)?)?;
+        let links = self.more_or_links(tokens, links)?;
+        Ok(chained(at, links))
+    }
+
+    #[tactic(auto, unfolding(crate::specs::reading::Expressions::simple))]
+    pub fn simple(&self, tokens: &mut Tokens<'_>) -> Result<TreeExpr, Halt>
+        requires { Nests self.now.depth (F.pre self.now.expr) (F.post self.now.expr) }
+        ensures { Reads (spec.simple (spec.expr self.now.depth) tokens.old) result tokens.new }
+    {
+        let first = self.conj(tokens)?;
+        self.or_links(tokens, first)
+    }
+
+    #[tactic(auto, unfolding(crate::specs::reading::Expressions::branch))]
+    fn branch(&self, tokens: &mut Tokens<'_>, all: Branches) -> Result<Branches, Halt>
+        requires { Nests self.now.depth (F.pre self.now.expr) (F.post self.now.expr) }
+        ensures { Reads (spec.branch (spec.expr self.now.depth) all tokens.old) result tokens.new }
+    {
+        let condition = self.whole(tokens)?;
+        word(tokens, Word::KwThen)?;
+        let value = self.whole(tokens)?;
+        branched(all, condition, value)
+    }
+
+    #[tactic(auto, unfolding(crate::specs::reading::Expressions::other_branch))]
+    fn other_branch(&self, tokens: &mut Tokens<'_>, all: Branches) -> Result<Branches, Halt>
+        requires { Nests self.now.depth (F.pre self.now.expr) (F.post self.now.expr) }
+        ensures { Reads (spec.other_branch (spec.expr self.now.depth) all tokens.old) result tokens.new }
+    {
+        word(tokens, Word::KwElseif)?;
+        self.branch(tokens, all)
+    }
+
+    #[tactic(auto, unfolding(crate::specs::reading::Outcomes::turns))]
+    fn other_branches(&self, tokens: &mut Tokens<'_>, mut all: Branches) -> Result<Branches, Halt>
+        requires { Nests self.now.depth (F.pre self.now.expr) (F.post self.now.expr) }
+        ensures { Reads (many (kinds.is_word w.KwElseif) (spec.other_branch (spec.expr self.now.depth)) all tokens.old) result tokens.new }
+    {
+        for _turn in 0..tokens.count() {
+            if !is_word(tokens.peek(), Word::KwElseif) {
+                break;
+            }
+            all = self.other_branch(tokens, all)?;
+        }
+        Ok(all)
+    }
+
+    #[tactic(auto, unfolding(crate::specs::reading::Expressions::choice))]
+    fn choice(&self, tokens: &mut Tokens<'_>) -> Result<TreeExpr, Halt>
+        requires { Nests self.now.depth (F.pre self.now.expr) (F.post self.now.expr) }
+        ensures { Reads (spec.choice (spec.expr self.now.depth) tokens.old) result tokens.new }
+    {
+        let if_word = word(tokens, Word::KwIf)?;
+        let none = Branches {
+            conditions: List::new(self.alloc),
+            branches: List::new(self.alloc),
+        };
+        let all = self.branch(tokens, none)?;
+        let all = self.other_branches(tokens, all)?;
+        word(tokens, Word::KwElse)?;
+        let other = self.whole(tokens)?;
+        chosen(self.alloc, if_word.at, all, other)
+    }
+
+    #[tactic(auto, unfolding(crate::specs::reading::Expressions::level))]
+    pub fn level(&self, tokens: &mut Tokens<'_>) -> Result<TreeExpr, Halt>
+        requires { Nests self.now.depth (F.pre self.now.expr) (F.post self.now.expr) }
+        ensures { Reads (spec.level (spec.expr self.now.depth) tokens.old) result tokens.new }
+    {
+        if is_word(tokens.peek(), Word::KwIf) {
+            self.choice(tokens)
+        } else {
+            self.simple(tokens)
+        }
+    }
+}
+
+/// A whole expression in which a token stands inside fewer levels than the number.
+pub fn expr(alloc: Global, tokens: &mut Tokens<'_>, depth: usize) -> Result<TreeExpr, Halt>
+    ensures { Reads (spec.expr depth tokens.old) result tokens.new }
+{
+    if depth == 0 {
+        return Err(Halt::Deep);
+    }
+    Grammar {
+        alloc,
+        depth: depth - 1,
+        expr,
+    }
+    .level(tokens)
+}
+
+/// A whole expression in which so many levels may be opened.
+pub fn whole_expr(alloc: Global, tokens: &mut Tokens<'_>, depth: usize) -> Result<TreeExpr, Halt>
+    ensures { Reads (spec.level (spec.expr depth) tokens.old) result tokens.new }
+{
+    Grammar { alloc, depth, expr }.level(tokens)
+}
+
+/// An expression other than `if`, in which so many levels may be opened.
+pub fn simple_expr(alloc: Global, tokens: &mut Tokens<'_>, depth: usize) -> Result<TreeExpr, Halt>
+    ensures { Reads (spec.simple (spec.expr depth) tokens.old) result tokens.new }
+{
+    Grammar { alloc, depth, expr }.simple(tokens)
+}

@@ -1,0 +1,9 @@
+pub mod All
+pub mod Distinct
+pub mod Spelled
+pub mod Types
+pub mod Readings
+pub mod Plainness
+pub mod Ordering
+pub mod Models
+pub mod Forms

@@ -1,0 +1,111 @@
+use super::{FormEnd, OneClock, one_clock};
+use flat_model::{ClockExpr, Equation, Expr, NameKind};
+use mo_lexer::lex;
+use mo_parser::parse;
+use std::alloc::Global;
+use sync_values::Value;
+
+// What a text that lexes and parses gives.
+fn told(alloc: Global, text: &[u8]) -> Option<Result<OneClock, FormEnd>> {
+    if text.len() > 1 << 20 {
+        return None;
+    }
+    let tokens = lex(alloc, text).ok()?;
+    let tree = parse(alloc, text, &tokens).ok()?;
+    Some(one_clock(alloc, text, &tree))
+}
+
+const TAKEN: [&str; 4] = [
+    "model M equation when Clock(1) then end when; end M;",
+    "model M Integer a; Boolean b; equation when Clock(1) then a = previous(a) + 3; b = a > 4 and mod(10, a) == 4; end when; end M;",
+    "model M Integer a(start = -3), b(start = +2) \"two\"; Boolean c(start = true); equation when Clock(2147483647, 1) then a = 1; b = +a; c = not false; end when; end M;",
+    "model M protected discrete Integer div; equation when Clock(2) then div = if (previous(div) < 9) then abs(-1) elseif true then max(1, 2) else previous((div)); end when; end M;",
+];
+
+const NOT_BUILT: [&str; 26] = [
+    "",
+    "block M equation when Clock(1) then end when; end M;",
+    "model A end A; model M equation when Clock(1) then end when; end M;",
+    "model M end M;",
+    "model M equation when Clock(0) then end when; end M;",
+    "model M equation when Clock(1, 2147483648) then end when; end M;",
+    "model M equation when clock(1) then end when; end M;",
+    "model M equation when Clock(1, 1, 1) then end when; end M;",
+    "model M equation when Clock(1) then end when; when Clock(1) then end when; end M;",
+    "model M Integer a; equation a = 1; when Clock(1) then end when; end M;",
+    "model M Integer a; equation when Clock(1) then end when; end M;",
+    "model M Integer a; equation when Clock(1) then a = 1; a = 1; end when; end M;",
+    "model M Integer a, b; equation when Clock(1) then a = b; b = 1; end when; end M;",
+    "model M Integer a; equation when Clock(1) then a = a; end when; end M;",
+    "model M Integer a; equation when Clock(1) then a + 0 = 1; end when; end M;",
+    "model M Integer a; equation when Clock(1) then a = true; end when; end M;",
+    "model M Integer a; equation when Clock(1) then a = 4 / 2; end when; end M;",
+    "model M Integer a; equation when Clock(1) then a = 4 ^ 2; end when; end M;",
+    "model M Integer a; equation when Clock(1) then a = previous(a + 1); end when; end M;",
+    "model M Integer a; equation when Clock(1) then a = hold(a); end when; end M;",
+    "model M Integer a; equation when Clock(1) then a = min(1); end when; end M;",
+    "model M Integer a, a; equation when Clock(1) then a = 1; end when; end M;",
+    "model M Integer time; equation when Clock(1) then time = 1; end when; end M;",
+    "model M input Integer a; equation when Clock(1) then a = 1; end when; end M;",
+    "model M Integer a = 1; equation when Clock(1) then a = 1; end when; end M;",
+    "model M Integer a(start = true); equation when Clock(1) then a = 1; end when; end M;",
+];
+
+#[test]
+fn takes_the_form(rt: HostRuntime) {
+    for text in TAKEN {
+        assert!(rt;
+            matches!(told(rt.alloc(), text.as_bytes()), Some(Ok(_))),
+            "{text}"
+        );
+    }
+    for text in NOT_BUILT {
+        assert!(rt;
+            matches!(
+                told(rt.alloc(), text.as_bytes()),
+                Some(Err(FormEnd::NotBuilt))
+            ),
+            "{text}"
+        );
+    }
+}
+
+#[test]
+fn tells_names_and_equations(rt: HostRuntime) {
+    let text =
+        b"model M Integer a(start = -3); Boolean b; equation when Clock(5, 2) then b = previous(a) < 4; a = 7; end when; end M;";
+    let Some(Ok(told)) = told(rt.alloc(), text) else {
+        panic!(rt; "the text has the form");
+    };
+    assert_eq!(rt; (told.counter, told.resolution), (5, 2));
+    let [a, b] = told.model.names.as_slice() else {
+        panic!(rt; "two names");
+    };
+    assert_eq!(rt; a.text.as_bytes(), b"a".as_slice());
+    assert_eq!(rt; (a.kind, a.start), (NameKind::Integer, Value::Int(-3)));
+    assert_eq!(rt; (b.kind, b.start), (NameKind::Boolean, Value::Bool(false)));
+    let [first, second] = told.model.equations.as_slice() else {
+        panic!(rt; "two equations");
+    };
+    assert!(rt;
+        matches!(
+            first,
+            Equation::Valued {
+                left: Expr::Read(1),
+                right: Expr::Relation(_, _, _),
+                clause: Some(0)
+            }
+        )
+    );
+    assert!(rt;
+        matches!(
+            second,
+            Equation::Valued {
+                left: Expr::Read(0),
+                right: Expr::Const(Value::Int(7)),
+                clause: Some(0)
+            }
+        )
+    );
+    assert!(rt; matches!(told.model.clauses.as_slice(), [ClockExpr::Rational(5, 2)]));
+}

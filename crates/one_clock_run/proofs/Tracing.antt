@@ -1,0 +1,44 @@
+-- What a run of a model of one clock stands on.
+use Rattle.std.proofs.Common.{◌≡◌, refl, ap, sym, subst, append-nil, ◌∙◌, ℕ, suc, ◌*◌, ◌^◌, ◌<◌, ◌≤◌, List, [], ◌∷◌, ◌++◌, Option, Some, slice_get, length, arith}
+use Rattle.rational_time.specs.declared.ratio.Ratio.{Ratio}
+use Rattle.outside_io.specs.Texts.{grown, GrewByPrefix}
+use Rattle.outside_io.proofs.Growth.{grown-grown, grown-nil}
+use Rattle.flat_model.specs.declared.model.FlatName.{FlatName}
+use Rattle.one_clock.specs.declared.form.OneClock.{OneClock}
+use Rattle.one_clock.specs.OneClock.{AreOwnNames}
+use Rattle.one_clock_run.specs.Computed.{HasTickCount, AreRunInstants}
+use Rattle.one_clock_run.specs.Setting.{IsClockOf}
+use Rattle.one_clock_run.specs.Lines.{header_len, names_len}
+use Rattle.one_clock_run.specs.Traces.{HasTicks, IsPlan}
+use Rattle.one_clock_run.proofs.RowsLemmas.{GrewByPrefix-after}
+
+short_names : (names : List FlatName) → ((x : ℕ) (name : FlatName) → slice_get names x ≡ Some name → length name.text ≤ 128) → names_len names ≤ 129 * length names
+short_names [] short = omega arith
+short_names (name ∷ names) short =
+    let first : length name.text ≤ 128 = short 0 name refl in
+    let rest = short_names names (λ k n at. short (suc k) n at) in
+    omega (arith, first, rest)
+
+-- the header of a model fits a line
+pub header_short : (names : List FlatName) → AreOwnNames names → header_len names < 2 ^ 32
+header_short names own = omega (arith, short_names names (λ x name at. (own.each x name at).short), own.few)
+
+pub ticks_of : (one : OneClock) (stop period start : Ratio) (ticks : ℕ) → IsClockOf one.counter one.resolution period start → HasTickCount one.model.equations period start stop ticks → HasTicks one stop ticks
+ticks_of one stop period start ticks clock count = record { period = period; start = start; clock = clock; count = count }
+
+pub plan_of : (one : OneClock) (stop period start : Ratio) (ticks : ℕ) (instants : List Ratio) → IsClockOf one.counter one.resolution period start → HasTickCount one.model.equations period start stop ticks
+    → ticks < 16777216 → AreRunInstants one.model.equations period start stop instants → IsPlan one stop instants
+plan_of one stop period start ticks instants clock count few are =
+    record { ticks = ticks; has_ticks = record { period = period; start = start; clock = clock; count = count }; few = omega (arith, few); instants_are = are }
+
+-- rows behind the header
+pub rows_put : (header rows : List ℕ) (old middle new : Option (List ℕ)) → middle ≡ grown header old → new ≡ grown rows middle → new ≡ grown (header ++ rows) old
+rows_put header rows old middle new first rest = rest ∙ ap (grown rows) first ∙ grown-grown header rows old
+
+pub rows_failed : (header rows : List ℕ) (old middle new : Option (List ℕ)) → middle ≡ grown header old → GrewByPrefix rows middle new → GrewByPrefix (header ++ rows) old new
+rows_failed header rows old middle new first grew =
+    GrewByPrefix-after header rows [] (header ++ rows) old new (ap (λ r. header ++ r) (append-nil rows)) (subst (λ o. GrewByPrefix rows o new) first grew)
+
+pub header_failed : (header rows : List ℕ) (old new : Option (List ℕ)) → GrewByPrefix header old new → GrewByPrefix (header ++ rows) old new
+header_failed header rows old new grew =
+    GrewByPrefix-after [] header rows (header ++ rows) old new refl (subst (λ o. GrewByPrefix header o new) (sym (grown-nil old)) grew)

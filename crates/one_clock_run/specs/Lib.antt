@@ -1,0 +1,8 @@
+pub mod Computed
+pub mod Ends
+pub mod Lines
+pub mod Runs
+pub mod Setting
+pub mod Steps
+pub mod Traces
+pub mod Values
