@@ -2,9 +2,11 @@
 """Writes a large model of one clock: a chain of names, each of which reads the one before it.
 
     generate.py [--names N] > FILE
+    generate.py --controllers > FILE
 
 The first name counts ticks, and every other one is greater by 1 than the one before it. The names are the shortest
-that there are, so that many fit the 1,048,576 bytes that a model may have.
+that there are, so that many fit the 1,048,576 bytes that a model may have. With `--controllers` it writes classes of an
+ordinary form instead, as many as leave 16 bytes of these.
 """
 
 import argparse
@@ -17,6 +19,29 @@ FIRST_BYTES = string.ascii_letters + "_"
 LATER_BYTES = FIRST_BYTES + string.digits
 # The keywords of at most three letters.
 KEYWORDS = {"if", "in", "or", "and", "der", "end", "for", "not"}
+
+
+CONTROLLER = """block Filter "mean of two"
+  input Integer u;
+  output Integer y;
+equation
+  y = div(u + previous(u), 2);
+  annotation(Icon(extent = {{-100.5, -100}, {100.5, 100}}));
+end Filter;
+block Controller "integral control"
+  parameter Integer ref = 100;
+  parameter Integer limit = 40;
+  input Integer u;
+  output Integer y;
+protected
+  Integer e "error";
+  Integer sum(start = 0);
+equation
+  e = ref - u; // the distance to the set point
+  sum = max(-limit, min(limit, previous(sum) + e));
+  y = sum;
+end Controller;
+"""
 
 
 def short_names():
@@ -40,7 +65,12 @@ def model_text(count):
 def main():
     parser = argparse.ArgumentParser(description="Writes a chain of names as a model.")
     parser.add_argument("--names", type=int, default=60_000)
-    count = parser.parse_args().names
+    parser.add_argument("--controllers", action="store_true")
+    options = parser.parse_args()
+    if options.controllers:
+        sys.stdout.write(CONTROLLER * ((MODEL_LIMIT - 16) // len(CONTROLLER)))
+        return
+    count = options.names
     if count < 1:
         sys.exit("generate.py: a chain has at least one name")
     text = model_text(count)

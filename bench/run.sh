@@ -63,9 +63,12 @@ status=0
 mkdir -p "$generated"
 "$here/generate.py" --names "$names" >"$generated/chain.mo"
 "$here/generate.py" --names 5000 >"$generated/steps.mo"
-# The first ends in a byte of no token, and the second in a token that nothing may follow.
-{ cat "$generated/chain.mo"; echo "$"; } >"$generated/lexed.mo"
-{ cat "$generated/chain.mo"; echo "]"; } >"$generated/parsed.mo"
+"$here/generate.py" --controllers >"$generated/controllers.mo"
+# Of each text the first ends in a byte of no token, and the second in a token that nothing may follow.
+for text in chain controllers; do
+    { cat "$generated/$text.mo"; echo "$"; } >"$generated/$text-lexed.mo"
+    { cat "$generated/$text.mo"; echo "]"; } >"$generated/$text-parsed.mo"
+done
 
 echo "$(nproc) cores; chain.mo has $names names in $(stat -c %s "$generated/chain.mo") bytes"
 measure "counter, 1,000,001 rows" "$here/counter.mo" 1000 1000002 "1000,1000001"
@@ -74,6 +77,8 @@ measure "chain, 100 rows" "$generated/chain.mo" 99 101 "99,100,101,"
 measure "5,000 equations, 2,000 ticks" "$generated/steps.mo" 1999 2001 "1999,2000,2001,"
 steps="$(fastest "$generated/steps.mo" 1999 "$generated/out.csv" 0)"
 awk -v seconds="$steps" 'BEGIN { printf "%-40s %8.1f ns, with its output\n", "an equation at a tick", seconds * 1e9 / (5000 * 2000) }'
-refused "chain, read and divided into tokens" "$generated/lexed.mo"
-refused "chain, read, divided and parsed" "$generated/parsed.mo"
+for text in controllers chain; do
+    refused "$text, divided into tokens" "$generated/$text-lexed.mo"
+    refused "$text, and parsed" "$generated/$text-parsed.mo"
+done
 rm -f "$generated/out.csv"
