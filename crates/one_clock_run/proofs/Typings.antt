@@ -35,7 +35,7 @@ slice_get-set_other (x ∷ xs) (suc i) (suc j) a h = slice_get-set_other xs i j 
 
 -- what can be read now and of the tick before, and nothing else
 abbrev pub over : Row → Row → Views
-over now previous back = record { now = now; previous = previous; last = λ x. None; first = false; interval = record { num = 0; den = 1 } }
+over now previous back = record { now = now; previous = previous; last = previous; first = false; interval = record { num = 0; den = 1 } }
 
 -- each name has a value of its type
 abbrev pub AreTyped : List FlatName → Row → Type 0

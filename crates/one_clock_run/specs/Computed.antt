@@ -24,7 +24,7 @@ abbrev pub views_of : List Value → List Value → Views
 views_of now before back = record {
   now = λ x. slice_get now x;
   previous = λ x. slice_get before x;
-  last = λ x. None;
+  last = λ x. slice_get before x;
   first = false;
   interval = record { num = 0; den = 1 };
 }

@@ -6,7 +6,7 @@ use sync_values::Value;
 
 /// What an equation of the one clock reads: the values of this tick so far, and those of the tick before.
 ///
-/// Nothing of such an equation asks for a first tick, an interval or a left limit.
+/// Nothing of such an equation asks for a first tick, an interval, a last value or a left limit.
 #[derive(Drop)]
 pub struct Reads<'a> {
     pub now: &'a [Value],
@@ -31,16 +31,16 @@ impl<'a> Lookup for Reads<'a> {
         self.before[name as usize]
     }
 
-    fn last(&self, _name: u32) -> Value {
-        unreachable!()
+    fn last(&self, name: u32) -> Value {
+        self.previous(name)
     }
 
     fn left_now(&self, name: u32) -> Option<Value> {
         self.now.get(name as usize).copied()
     }
 
-    fn left_last(&self, _name: u32) -> Value {
-        unreachable!()
+    fn left_last(&self, name: u32) -> Value {
+        self.previous(name)
     }
 
     fn first(&self) -> bool {
