@@ -7,7 +7,7 @@ use Rattle.mo_lexer.specs.Tokens.{AreTokens, IsFaultAt}
 use Rattle.mo_parser.specs.declared.tree.Tree.{Tree}
 use Rattle.mo_parser.specs.declared.syntax.SyntaxCode.{SyntaxCode}
 use Rattle.mo_parser.specs.grammar.Faults.{Spells, IsFault}
-use Rattle.mo_parser.specs.reading.Outcomes.{head}
+use Rattle.mo_parser.specs.grammar.Places.{head}
 use Rattle.flat_model.specs.declared.clock.Clock.TheVariants.{Periodic}
 use Rattle.flat_model.specs.declared.model.FlatModel.{FlatModel}
 use Rattle.flat_model.specs.declared.place.Place.TheVariants.{Model, Plan}

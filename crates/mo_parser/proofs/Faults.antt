@@ -11,8 +11,8 @@ use Rattle.mo_parser.specs.grammar.Classes as rule
 use Rattle.std.proofs.Common.{Err}
 use Rattle.mo_parser.specs.declared.syntax.ParseEnd.{ParseEnd}
 use Rattle.mo_parser.specs.grammar.Faults.{Answers, refused_at, GoesOn, IsFault, IsRefused, IsTooDeep, OneTree, code_by}
-use Rattle.mo_parser.specs.grammar.Places.{Swap}
-use Rattle.mo_parser.specs.reading.Outcomes.{Outcome, Deep, Read, Stuck, head}
+use Rattle.mo_parser.specs.grammar.Places.{Swap, head}
+use Rattle.mo_parser.specs.reading.Outcomes.{Outcome, Deep, Read, Stuck}
 use Rattle.mo_parser.specs.reading.Classes.{file}
 use Rattle.mo_parser.proofs.rules.Kinds.{Out, among, kw, tag}
 use Rattle.mo_parser.proofs.rules.Lists.{Below, Halts, moved, next_same, rest_of}
@@ -35,7 +35,7 @@ ended a h = end_out (head a).kind h
 
 module _ (text : List ℕ) where
   -- what is spelled is read, at any number of levels above
-  spelled_read : (m n : ℕ) (t : Tree) (tokens rest : List Token) → m ≤ n → rule.file text m t tokens rest → is_end (head rest) ≡ true → file text n tokens ≡ Read t rest
+  spelled_read : (m n : ℕ) (t : Tree) (tokens rest : List Token) → m ≤ n → (rule.file text m).spells t tokens rest → is_end (head rest) ≡ true → file text n tokens ≡ Read t rest
   spelled_read m n t tokens rest le r e = (fits_file text {n = n}).complete t tokens rest ((fits_file text {n = m}).deeper n le t tokens rest r) (ended rest e)
 
   -- a reading that ends without an answer, at more levels and at other tokens after the place
@@ -86,7 +86,7 @@ module _ (text : List ℕ) where
     here = λ m t a b s x.
         let k = max n m in
         stuck_not_read (file text k a) b x.0 t (stuck_above n k tokens rest a b (omega arith) h s) (spelled_read m k t a x.0 (omega arith) x.1 x.2);
-    shallow = λ other d. stuck_not_deep (file text n tokens) rest other h d;
+    shallow = λ other d. stuck_not_deep (file text n tokens) rest other h ((fits_file text {n = n}).deep_complete tokens other d);
   }
 
   pub longer_refused : (n : ℕ) (t : Tree) (tokens rest : List Token) → file text n tokens ≡ Read t rest → is_end (head rest) ≡ false → IsRefused text n tokens rest
@@ -99,12 +99,12 @@ module _ (text : List ℕ) where
         let there : b ≡ x.0 = read_once (file text k a) b x.0 t u (read_above n k t tokens rest a b (omega arith) h s) (spelled_read m k u a x.0 (omega arith) x.1 x.2) in
         let end : is_end (head rest) ≡ true = ap is_end (next_same tokens rest a b s) ∙ ap (λ (ts : List Token). is_end (head ts)) there ∙ x.2 in
         cc;
-    shallow = λ other d. deep_not_read (file text n tokens) other rest t d h;
+    shallow = λ other d. deep_not_read (file text n tokens) other rest t ((fits_file text {n = n}).deep_complete tokens other d) h;
   }
 
   pub too_deep : (n : ℕ) (tokens rest : List Token) → file text n tokens ≡ Deep rest → IsTooDeep text n tokens rest
   too_deep n tokens rest h = record {
-    deep = h;
+    deep = (fits_file text {n = n}).deep_sound tokens rest h;
     before = (let Q : Outcome Tree → Type 0 = λ o. Halts o rest in halt_goes n tokens rest (subst Q (sym h) refl));
     here = λ t a b s x. deep_not_read (file text n a) b x.0 t (deep_there n tokens rest a b h s) (spelled_read n n t a x.0 (omega arith) x.1 x.2);
   }

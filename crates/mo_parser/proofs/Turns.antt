@@ -3,7 +3,8 @@ use Rattle.std.proofs.Common.{◌≡◌, ◌⊎◌, inl, inr, ℕ, zero, suc, �
 use Rattle.mo_lexer.specs.declared.token.Token.{Token}
 use Rattle.mo_parser.specs.declared.grammar.tokens.Halt.{Halt}
 use Rattle.mo_parser.specs.declared.grammar.tokens.Halt.TheVariants as halt
-use Rattle.mo_parser.specs.reading.Outcomes.{Outcome, Parser, Read, Reads, and_then, head, turns}
+use Rattle.mo_parser.specs.grammar.Places.{head}
+use Rattle.mo_parser.specs.reading.Outcomes.{Outcome, Parser, Read, Reads, and_then, turns}
 
 module _ {A : Type 0} {e : Outcome A} (test : Token → Bool) (step : A → Parser A) (n at : ℕ) where
   one_more : (x : A) (ts : List Token) → at < n → e ≡ turns test step (n - at) x ts → test (head ts) ≡ true → e ≡ and_then (step x ts) (turns test step (n - (at + 1)))

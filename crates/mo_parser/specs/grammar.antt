@@ -1,3 +1,4 @@
+pub mod Places
 pub mod Rules
 pub mod Kinds
 pub mod Names
@@ -8,5 +9,4 @@ pub mod Modifications
 pub mod Elements
 pub mod Equations
 pub mod Classes
-pub mod Places
 pub mod Faults

@@ -1,12 +1,12 @@
 -- Expressions.
-use Rattle.std.proofs.Common.{◌++◌, ℕ, is_some, List, [], ◌∷◌, refl, arith}
+use Rattle.std.proofs.Common.{None, Some, ◌++◌, ℕ, is_some, List, [], ◌∷◌, refl, arith}
 use Rattle.mo_lexer.specs.declared.token.Word.TheVariants as w
 use Rattle.mo_lexer.specs.declared.token.Sym.TheVariants as s
 use Rattle.mo_parser.specs.declared.tree.TreeExpr.{TreeExpr}
 use Rattle.mo_parser.specs.declared.grammar.parts.Links.{Links}
 use Rattle.mo_parser.specs.declared.grammar.parts.Branches.{Branches}
 use Rattle.mo_parser.specs.grammar.Kinds.{and_of, is_symbol, is_word, literal_of, or_of, product_of, relation_of, sum_of}
-use Rattle.mo_parser.specs.grammar.Rules.{Spelling}
+use Rattle.mo_parser.specs.grammar.Rules.{Rule}
 use Rattle.mo_parser.specs.grammar.Trees.{alone, no_branches}
 use Rattle.mo_parser.specs.grammar.Expressions as rule
 use Rattle.mo_parser.specs.reading.Outcomes.{Parser}
@@ -53,129 +53,129 @@ after_conj = kw w.KwAnd ∷ after_rel
 abbrev pub after_expr : List ℕ
 after_expr = kw w.KwOr ∷ after_conj
 
-module _ {n : ℕ} {R : ℕ → Spelling TreeExpr} {p : ℕ → Parser TreeExpr} (whole : Fits exprs after_expr 1 R p n) where
-  fits_bracketed : Fits (sy s.RoundOpen ∷ []) [] 1 (λ k. rule.bracketed (R k)) (λ k. read.bracketed (p k)) n
+module _ {n : ℕ} {R : ℕ → Rule TreeExpr} {p : ℕ → Parser TreeExpr} (whole : Fits exprs after_expr 1 (Some []) R p n) where
+  fits_bracketed : Fits (sy s.RoundOpen ∷ []) [] 1 None (λ k. rule.bracketed (R k)) (λ k. read.bracketed (p k)) n
   unfolding rule.bracketed read.bracketed read.inner
   fits_bracketed = fits_then (fits_symbol s.RoundOpen)
       (λ first. fits_then (fits_unless (is_symbol s.RoundClose) (sy s.RoundClose ∷ []) (tells_symbol s.RoundClose) whole refl) (λ e. fits_then (fits_symbol s.RoundClose) (λ last. fits_gives _) refl) refl) refl
 
-  fits_further : (es : List TreeExpr) → Fits (sy s.Comma ∷ []) after_expr 1 (λ k. rule.further (R k) es) (λ k. read.further (p k) es) n
+  fits_further : (es : List TreeExpr) → Fits (sy s.Comma ∷ []) after_expr 1 None (λ k. rule.further (R k) es) (λ k. read.further (p k) es) n
   unfolding rule.further read.further
   fits_further es = fits_then (fits_symbol s.Comma) (λ _. fits_then whole (λ e. fits_gives _) refl) refl
 
-  fits_listed : Fits exprs (sy s.Comma ∷ after_expr) 1 (λ k. rule.listed (R k)) (λ k. read.listed (p k)) n
+  fits_listed : Fits exprs (sy s.Comma ∷ after_expr) 1 (Some []) (λ k. rule.listed (R k)) (λ k. read.listed (p k)) n
   unfolding rule.listed read.listed
   fits_listed = fits_as exprs (sy s.Comma ∷ after_expr) refl refl
       (fits_then whole (λ e. fits_many (is_symbol s.Comma) (sy s.Comma ∷ []) (tells_symbol s.Comma) refl (λ es. fits_further es) refl refl (e ∷ [])) refl)
 
-  fits_arguments : Fits (sy s.RoundClose ∷ exprs) [] 1 (λ k. rule.arguments (R k)) (λ k. read.arguments (p k)) n
+  fits_arguments : Fits (sy s.RoundClose ∷ exprs) [] 1 (Some (sy s.RoundClose ∷ [])) (λ k. rule.arguments (R k)) (λ k. read.arguments (p k)) n
   unfolding rule.arguments read.arguments
   fits_arguments = fits_choose (is_symbol s.RoundClose) (sy s.RoundClose ∷ []) (tells_symbol s.RoundClose)
       (fits_then (fits_symbol s.RoundClose) (λ last. fits_gives _) refl)
-      (fits_then fits_listed (λ es. fits_then (fits_symbol s.RoundClose) (λ last. fits_gives _) refl) refl) refl refl (omega arith)
+      (fits_then (fits_unless (is_symbol s.RoundClose) (sy s.RoundClose ∷ []) (tells_symbol s.RoundClose) fits_listed refl) (λ es. fits_then (fits_symbol s.RoundClose) (λ last. fits_gives _) refl) refl) refl refl (omega arith)
 
-  fits_reference : Fits (0 ∷ []) after_primary 1 (λ k. rule.reference (R k)) (λ k. read.reference (p k)) n
+  fits_reference : Fits (0 ∷ []) after_primary 1 None (λ k. rule.reference (R k)) (λ k. read.reference (p k)) n
   unfolding rule.reference read.reference
   fits_reference = fits_then fits_name (λ x. fits_choose (is_symbol s.RoundOpen) (sy s.RoundOpen ∷ []) (tells_symbol s.RoundOpen)
       (fits_then (fits_symbol s.RoundOpen) (λ _. fits_then fits_arguments (λ es. fits_gives _) refl) refl) (fits_gives _) refl refl (omega arith)) refl
 
-  fits_primary : Fits primaries after_primary 1 (λ k. rule.primary (R k)) (λ k. read.primary (p k)) n
+  fits_primary : Fits primaries after_primary 1 None (λ k. rule.primary (R k)) (λ k. read.primary (p k)) n
   unfolding rule.primary read.primary
   fits_primary = fits_choose (λ t. is_some (literal_of t)) literals tells_literal fits_literal
       (fits_choose (is_symbol s.RoundOpen) (sy s.RoundOpen ∷ []) (tells_symbol s.RoundOpen) fits_bracketed fits_reference refl refl (omega arith)) refl refl (omega arith)
 
-  fits_factor : Fits primaries after_factor 1 (λ k. rule.factor (R k)) (λ k. read.factor (p k)) n
+  fits_factor : Fits primaries after_factor 1 None (λ k. rule.factor (R k)) (λ k. read.factor (p k)) n
   unfolding rule.factor read.factor
   fits_factor = fits_as primaries after_factor refl refl (fits_then fits_primary (λ base. fits_choose (is_symbol s.Power) (sy s.Power ∷ []) (tells_symbol s.Power)
       (fits_then (fits_symbol s.Power) (λ _. fits_then fits_primary (λ e. fits_gives _) refl) refl) (fits_gives base) refl refl (omega arith)) refl)
 
-  fits_product_link : (l : Links) → Fits products after_factor 1 (λ k. rule.link product_of (rule.factor (R k)) l) (λ k. read.link product_of (read.factor (p k)) l) n
+  fits_product_link : (l : Links) → Fits products after_factor 1 None (λ k. rule.link product_of (rule.factor (R k)) l) (λ k. read.link product_of (read.factor (p k)) l) n
   unfolding rule.link read.link
   fits_product_link l = fits_then fits_product (λ op. fits_then fits_factor (λ e. fits_gives _) refl) refl
 
-  fits_product_links : (first : TreeExpr) → Fits products after_term 0 (λ k. rule.links product_of (rule.factor (R k)) first) (λ k. read.links product_of (read.factor (p k)) first) n
+  fits_product_links : (first : TreeExpr) → Fits products after_term 0 None (λ k. rule.links product_of (rule.factor (R k)) first) (λ k. read.links product_of (read.factor (p k)) first) n
   unfolding rule.links read.links
   fits_product_links first = fits_as products after_term refl refl (fits_choose (read.is_op product_of) products tells_product
       (fits_then (fits_product_link (alone first)) (λ l. fits_then (fits_many (read.is_op product_of) products tells_product refl (λ l. fits_product_link l) refl refl l) (λ all. fits_gives _) refl) refl)
       (fits_gives first) refl refl (omega arith))
 
-  fits_term : Fits primaries after_term 1 (λ k. rule.term (R k)) (λ k. read.term (p k)) n
+  fits_term : Fits primaries after_term 1 None (λ k. rule.term (R k)) (λ k. read.term (p k)) n
   unfolding rule.term read.term
   fits_term = fits_as primaries after_term refl refl (fits_then fits_factor (λ e. fits_product_links e) refl)
 
-  fits_signed : Fits (sy s.Plus ∷ sy s.Minus ∷ primaries) after_term 1 (λ k. rule.signed (R k)) (λ k. read.signed (p k)) n
+  fits_signed : Fits (sy s.Plus ∷ sy s.Minus ∷ primaries) after_term 1 None (λ k. rule.signed (R k)) (λ k. read.signed (p k)) n
   unfolding rule.signed read.signed
   fits_signed = fits_as (sy s.Plus ∷ sy s.Minus ∷ primaries) after_term refl refl (fits_choose (is_symbol s.Plus) (sy s.Plus ∷ []) (tells_symbol s.Plus)
       (fits_then (fits_symbol s.Plus) (λ sign. fits_then fits_term (λ e. fits_gives _) refl) refl)
       (fits_choose (is_symbol s.Minus) (sy s.Minus ∷ []) (tells_symbol s.Minus)
       (fits_then (fits_symbol s.Minus) (λ sign. fits_then fits_term (λ e. fits_gives _) refl) refl) fits_term refl refl (omega arith)) refl refl (omega arith))
 
-  fits_sum_link : (l : Links) → Fits sums after_term 1 (λ k. rule.link sum_of (rule.term (R k)) l) (λ k. read.link sum_of (read.term (p k)) l) n
+  fits_sum_link : (l : Links) → Fits sums after_term 1 None (λ k. rule.link sum_of (rule.term (R k)) l) (λ k. read.link sum_of (read.term (p k)) l) n
   unfolding rule.link read.link
   fits_sum_link l = fits_then fits_sum (λ op. fits_then fits_term (λ e. fits_gives _) refl) refl
 
-  fits_sum_links : (first : TreeExpr) → Fits sums after_arith 0 (λ k. rule.links sum_of (rule.term (R k)) first) (λ k. read.links sum_of (read.term (p k)) first) n
+  fits_sum_links : (first : TreeExpr) → Fits sums after_arith 0 None (λ k. rule.links sum_of (rule.term (R k)) first) (λ k. read.links sum_of (read.term (p k)) first) n
   unfolding rule.links read.links
   fits_sum_links first = fits_as sums after_arith refl refl (fits_choose (read.is_op sum_of) sums tells_sum
       (fits_then (fits_sum_link (alone first)) (λ l. fits_then (fits_many (read.is_op sum_of) sums tells_sum refl (λ l. fits_sum_link l) refl refl l) (λ all. fits_gives _) refl) refl)
       (fits_gives first) refl refl (omega arith))
 
-  fits_arith : Fits (sy s.Plus ∷ sy s.Minus ∷ primaries) after_arith 1 (λ k. rule.arith (R k)) (λ k. read.arith (p k)) n
+  fits_arith : Fits (sy s.Plus ∷ sy s.Minus ∷ primaries) after_arith 1 None (λ k. rule.arith (R k)) (λ k. read.arith (p k)) n
   unfolding rule.arith read.arith
   fits_arith = fits_as (sy s.Plus ∷ sy s.Minus ∷ primaries) after_arith refl refl (fits_then fits_signed (λ e. fits_sum_links e) refl)
 
-  fits_rel : Fits (sy s.Plus ∷ sy s.Minus ∷ primaries) after_rel 1 (λ k. rule.rel (R k)) (λ k. read.rel (p k)) n
+  fits_rel : Fits (sy s.Plus ∷ sy s.Minus ∷ primaries) after_rel 1 None (λ k. rule.rel (R k)) (λ k. read.rel (p k)) n
   unfolding rule.rel read.rel
   fits_rel = fits_as (sy s.Plus ∷ sy s.Minus ∷ primaries) after_rel refl refl (fits_then fits_arith (λ a. fits_choose (λ t. is_some (relation_of t)) relations tells_relation
       (fits_then fits_relation (λ r. fits_then fits_arith (λ b. fits_gives _) refl) refl) (fits_gives a) refl refl (omega arith)) refl)
 
-  fits_lit : Fits simples after_rel 1 (λ k. rule.lit (R k)) (λ k. read.lit (p k)) n
+  fits_lit : Fits simples after_rel 1 None (λ k. rule.lit (R k)) (λ k. read.lit (p k)) n
   unfolding rule.lit read.lit
   fits_lit = fits_as simples after_rel refl refl (fits_choose (is_word w.KwNot) (kw w.KwNot ∷ []) (tells_word w.KwNot)
       (fits_then (fits_word w.KwNot) (λ x. fits_then fits_rel (λ e. fits_gives _) refl) refl) fits_rel refl refl (omega arith))
 
-  fits_and_link : (l : Links) → Fits (kw w.KwAnd ∷ []) after_rel 1 (λ k. rule.link and_of (rule.lit (R k)) l) (λ k. read.link and_of (read.lit (p k)) l) n
+  fits_and_link : (l : Links) → Fits (kw w.KwAnd ∷ []) after_rel 1 None (λ k. rule.link and_of (rule.lit (R k)) l) (λ k. read.link and_of (read.lit (p k)) l) n
   unfolding rule.link read.link
   fits_and_link l = fits_then fits_and (λ op. fits_then fits_lit (λ e. fits_gives _) refl) refl
 
-  fits_and_links : (first : TreeExpr) → Fits (kw w.KwAnd ∷ []) after_conj 0 (λ k. rule.links and_of (rule.lit (R k)) first) (λ k. read.links and_of (read.lit (p k)) first) n
+  fits_and_links : (first : TreeExpr) → Fits (kw w.KwAnd ∷ []) after_conj 0 None (λ k. rule.links and_of (rule.lit (R k)) first) (λ k. read.links and_of (read.lit (p k)) first) n
   unfolding rule.links read.links
   fits_and_links first = fits_as (kw w.KwAnd ∷ []) after_conj refl refl (fits_choose (read.is_op and_of) (kw w.KwAnd ∷ []) tells_and
       (fits_then (fits_and_link (alone first)) (λ l. fits_then (fits_many (read.is_op and_of) (kw w.KwAnd ∷ []) tells_and refl (λ l. fits_and_link l) refl refl l) (λ all. fits_gives _) refl) refl)
       (fits_gives first) refl refl (omega arith))
 
-  fits_conj : Fits simples after_conj 1 (λ k. rule.conj (R k)) (λ k. read.conj (p k)) n
+  fits_conj : Fits simples after_conj 1 None (λ k. rule.conj (R k)) (λ k. read.conj (p k)) n
   unfolding rule.conj read.conj
   fits_conj = fits_as simples after_conj refl refl (fits_then fits_lit (λ e. fits_and_links e) refl)
 
-  fits_or_link : (l : Links) → Fits (kw w.KwOr ∷ []) after_conj 1 (λ k. rule.link or_of (rule.conj (R k)) l) (λ k. read.link or_of (read.conj (p k)) l) n
+  fits_or_link : (l : Links) → Fits (kw w.KwOr ∷ []) after_conj 1 None (λ k. rule.link or_of (rule.conj (R k)) l) (λ k. read.link or_of (read.conj (p k)) l) n
   unfolding rule.link read.link
   fits_or_link l = fits_then fits_or (λ op. fits_then fits_conj (λ e. fits_gives _) refl) refl
 
-  fits_or_links : (first : TreeExpr) → Fits (kw w.KwOr ∷ []) after_expr 0 (λ k. rule.links or_of (rule.conj (R k)) first) (λ k. read.links or_of (read.conj (p k)) first) n
+  fits_or_links : (first : TreeExpr) → Fits (kw w.KwOr ∷ []) after_expr 0 None (λ k. rule.links or_of (rule.conj (R k)) first) (λ k. read.links or_of (read.conj (p k)) first) n
   unfolding rule.links read.links
   fits_or_links first = fits_as (kw w.KwOr ∷ []) after_expr refl refl (fits_choose (read.is_op or_of) (kw w.KwOr ∷ []) tells_or
       (fits_then (fits_or_link (alone first)) (λ l. fits_then (fits_many (read.is_op or_of) (kw w.KwOr ∷ []) tells_or refl (λ l. fits_or_link l) refl refl l) (λ all. fits_gives _) refl) refl)
       (fits_gives first) refl refl (omega arith))
 
-  pub fits_simple : Fits simples after_expr 1 (λ k. rule.simple (R k)) (λ k. read.simple (p k)) n
+  pub fits_simple : Fits simples after_expr 1 None (λ k. rule.simple (R k)) (λ k. read.simple (p k)) n
   unfolding rule.simple read.simple
   fits_simple = fits_as simples after_expr refl refl (fits_then fits_conj (λ e. fits_or_links e) refl)
 
-  fits_branch : (b : Branches) → Fits exprs after_expr 1 (λ k. rule.branch (R k) b) (λ k. read.branch (p k) b) n
+  fits_branch : (b : Branches) → Fits exprs after_expr 1 (Some []) (λ k. rule.branch (R k) b) (λ k. read.branch (p k) b) n
   unfolding rule.branch read.branch
   fits_branch b = fits_then whole (λ c. fits_then (fits_word w.KwThen) (λ _. fits_then whole (λ e. fits_gives _) refl) refl) refl
 
-  fits_other_branch : (b : Branches) → Fits (kw w.KwElseif ∷ []) after_expr 1 (λ k. rule.other_branch (R k) b) (λ k. read.other_branch (p k) b) n
+  fits_other_branch : (b : Branches) → Fits (kw w.KwElseif ∷ []) after_expr 1 None (λ k. rule.other_branch (R k) b) (λ k. read.other_branch (p k) b) n
   unfolding rule.other_branch read.other_branch
   fits_other_branch b = fits_then (fits_word w.KwElseif) (λ _. fits_branch b) refl
 
-  fits_choice : Fits (kw w.KwIf ∷ []) after_expr 1 (λ k. rule.choice (R k)) (λ k. read.choice (p k)) n
+  fits_choice : Fits (kw w.KwIf ∷ []) after_expr 1 None (λ k. rule.choice (R k)) (λ k. read.choice (p k)) n
   unfolding rule.choice read.choice
   fits_choice = fits_then (fits_word w.KwIf) (λ x. fits_then (fits_branch no_branches)
       (λ b. fits_then (fits_many (is_word w.KwElseif) (kw w.KwElseif ∷ []) (tells_word w.KwElseif) refl (λ b. fits_other_branch b) refl refl b)
       (λ all. fits_then (fits_word w.KwElse) (λ _. fits_then whole (λ e. fits_gives _) refl) refl) refl) refl) refl
 
-  pub fits_level : Fits exprs after_expr 1 (λ k. rule.level (R k)) (λ k. read.level (p k)) n
+  pub fits_level : Fits exprs after_expr 1 None (λ k. rule.level (R k)) (λ k. read.level (p k)) n
   unfolding rule.level read.level
   fits_level = fits_as exprs after_expr refl refl (fits_choose (is_word w.KwIf) (kw w.KwIf ∷ []) (tells_word w.KwIf) fits_choice fits_simple refl refl (omega arith))

@@ -1,12 +1,12 @@
 -- Modifications.
-use Rattle.std.proofs.Common.{◌<◌, inr, ℕ, zero, suc, List, [], ◌∷◌, None, refl, ap, arith}
+use Rattle.std.proofs.Common.{Some, inl, ◌<◌, inr, ℕ, zero, suc, List, [], ◌∷◌, None, refl, ap, arith}
 use Rattle.mo_lexer.specs.declared.token.Token.{Token}
 use Rattle.mo_lexer.specs.declared.token.TokenKind.TheVariants as k
 use Rattle.mo_lexer.specs.declared.token.Sym.TheVariants as s
 use Rattle.mo_parser.specs.declared.tree.Arg.{Arg}
 use Rattle.mo_parser.specs.declared.grammar.parts.Modification.{Modification}
 use Rattle.mo_parser.specs.grammar.Kinds.{is_ident, is_symbol}
-use Rattle.mo_parser.specs.grammar.Rules.{Spelling, ◌>>=◌, either, gives, nothing, one, optional, over}
+use Rattle.mo_parser.specs.grammar.Rules.{Rule, ◌>>=◌, either, gives, many, too_deep, one, optional, over}
 use Rattle.mo_parser.specs.grammar.Names.{ident, name, named}
 use Rattle.mo_parser.specs.grammar.Expressions.{Expr}
 use Rattle.mo_parser.specs.grammar.Modifications as rule
@@ -19,7 +19,7 @@ use Rattle.mo_parser.proofs.rules.Kinds.{sy}
 use Rattle.mo_parser.proofs.rules.Gives.{fits_gives}
 use Rattle.mo_parser.proofs.rules.Lists.{Below, front_none, none, swap_same}
 use Rattle.mo_parser.proofs.rules.Then.{fits_then}
-use Rattle.mo_parser.proofs.rules.Choose.{fits_choose}
+use Rattle.mo_parser.proofs.rules.Choose.{fits_choose, fits_unless}
 use Rattle.mo_parser.proofs.rules.Many.{fits_many}
 use Rattle.mo_parser.proofs.fits.Tests.{example, fits_symbol, tells_symbol}
 use Rattle.mo_parser.proofs.fits.Names.{fits_name}
@@ -34,44 +34,44 @@ abbrev pub after_args : List ℕ
 after_args = sy s.Comma ∷ sy s.Dot ∷ 3 ∷ after_modification
 
 module _ {n : ℕ} where
-  pub fits_value : Fits (sy s.Equals ∷ []) after_expr 1 (λ k. rule.value (Expr k)) (λ k. read.value (expr k)) n
+  pub fits_value : Fits (sy s.Equals ∷ []) after_expr 1 None (λ k. rule.value (Expr k)) (λ k. read.value (expr k)) n
   unfolding rule.value read.value
   fits_value = fits_then (fits_symbol s.Equals) (λ _. fits_level (fits_expr n)) refl
 
-  fits_some_value : Fits (sy s.Equals ∷ []) (sy s.Equals ∷ after_expr) 0 (λ k. optional (rule.value (Expr k))) (λ k. reads.optional (is_symbol s.Equals) (read.value (expr k))) n
+  fits_some_value : Fits (sy s.Equals ∷ []) (sy s.Equals ∷ after_expr) 0 None (λ k. optional (rule.value (Expr k))) (λ k. reads.optional (is_symbol s.Equals) (read.value (expr k))) n
   fits_some_value = fits_as (sy s.Equals ∷ []) (sy s.Equals ∷ after_expr) refl refl
       (fits_choose (is_symbol s.Equals) (sy s.Equals ∷ []) (tells_symbol s.Equals) (fits_then fits_value (λ e. fits_gives _) refl) (fits_gives _) refl refl (omega arith))
 
-  module _ {R : ℕ → Spelling (List Arg)} {p : ℕ → Parser (List Arg)} (nested : Fits (0 ∷ []) after_args 1 R p n) where
-    pub fits_in_brackets : Fits (sy s.RoundClose ∷ 0 ∷ []) [] 1 (λ k. rule.in_brackets (R k)) (λ k. read.in_brackets (p k)) n
+  module _ {R : ℕ → Rule (List Arg)} {p : ℕ → Parser (List Arg)} (nested : Fits (0 ∷ []) after_args 1 (Some []) R p n) where
+    pub fits_in_brackets : Fits (sy s.RoundClose ∷ 0 ∷ []) [] 1 (Some (sy s.RoundClose ∷ [])) (λ k. rule.in_brackets (R k)) (λ k. read.in_brackets (p k)) n
     unfolding rule.in_brackets read.in_brackets
     fits_in_brackets = fits_choose (is_symbol s.RoundClose) (sy s.RoundClose ∷ []) (tells_symbol s.RoundClose) (fits_then (fits_symbol s.RoundClose) (λ _. fits_gives _) refl)
-        (fits_then nested (λ us. fits_then (fits_symbol s.RoundClose) (λ _. fits_gives us) refl) refl) refl refl (omega arith)
+        (fits_then (fits_unless (is_symbol s.RoundClose) (sy s.RoundClose ∷ []) (tells_symbol s.RoundClose) nested refl) (λ us. fits_then (fits_symbol s.RoundClose) (λ _. fits_gives us) refl) refl) refl refl (omega arith)
 
-    pub fits_modification : Fits (sy s.RoundOpen ∷ sy s.Equals ∷ []) after_modification 0 (λ k. rule.modification (Expr k) (R k)) (λ k. read.modification (expr k) (p k)) n
+    pub fits_modification : Fits (sy s.RoundOpen ∷ sy s.Equals ∷ []) after_modification 0 None (λ k. rule.modification (Expr k) (R k)) (λ k. read.modification (expr k) (p k)) n
     unfolding rule.modification read.modification
     fits_modification = fits_as (sy s.RoundOpen ∷ sy s.Equals ∷ []) after_modification refl refl
         (fits_choose (is_symbol s.RoundOpen) (sy s.RoundOpen ∷ []) (tells_symbol s.RoundOpen)
         (fits_then (fits_symbol s.RoundOpen) (λ _. fits_then fits_in_brackets (λ us. fits_then fits_some_value (λ v. fits_gives _) refl) refl) refl)
         (fits_then fits_some_value (λ v. fits_gives _) refl) refl refl (omega arith))
 
-    fits_argument : Fits (0 ∷ []) (sy s.Dot ∷ 3 ∷ after_modification) 1 (λ k. rule.argument (Expr k) (R k)) (λ k. read.argument (expr k) (p k)) n
+    fits_argument : Fits (0 ∷ []) (sy s.Dot ∷ 3 ∷ after_modification) 1 None (λ k. rule.argument (Expr k) (R k)) (λ k. read.argument (expr k) (p k)) n
     unfolding rule.argument read.argument
     fits_argument = fits_as (0 ∷ []) (sy s.Dot ∷ 3 ∷ after_modification) refl refl
         (fits_then fits_name (λ x. fits_then fits_modification (λ m. fits_then fits_some_texts (λ _. fits_gives _) refl) refl) refl)
 
-    fits_further_argument : (us : List Arg) → Fits (sy s.Comma ∷ []) (sy s.Dot ∷ 3 ∷ after_modification) 1 (λ k. rule.further_argument (Expr k) (R k) us) (λ k. read.further_argument (expr k) (p k) us) n
+    fits_further_argument : (us : List Arg) → Fits (sy s.Comma ∷ []) (sy s.Dot ∷ 3 ∷ after_modification) 1 None (λ k. rule.further_argument (Expr k) (R k) us) (λ k. read.further_argument (expr k) (p k) us) n
     unfolding rule.further_argument read.further_argument
     fits_further_argument us = fits_then (fits_symbol s.Comma) (λ _. fits_then fits_argument (λ a. fits_gives _) refl) refl
 
-    pub fits_arguments : Fits (0 ∷ []) after_args 1 (λ k. rule.arguments (Expr k) (R k)) (λ k. read.arguments (expr k) (p k)) n
+    pub fits_arguments : Fits (0 ∷ []) after_args 1 None (λ k. rule.arguments (Expr k) (R k)) (λ k. read.arguments (expr k) (p k)) n
     unfolding rule.arguments read.arguments
     fits_arguments = fits_as (0 ∷ []) after_args refl refl
         (fits_then fits_argument (λ a. fits_many (is_symbol s.Comma) (sy s.Comma ∷ []) (tells_symbol s.Comma) refl (λ us. fits_further_argument us) refl refl (a ∷ [])) refl)
 
 -- the shortest arguments
 some_args : (m : ℕ) → 0 < m → Some_of (rule.Args m)
-unfolding rule.Args rule.arguments rule.argument rule.modification name ident either one gives ◌>>=◌ example is_ident
+unfolding rule.Args rule.arguments rule.argument rule.modification name ident either one gives many ◌>>=◌ example is_ident
 some_args zero lt = absurd (omega arith)
 some_args (suc m) lt =
     let t : Token = example k.Ident in let none : Modification = record { args = []; binding = None } in let a : Arg = rule.argument_of (named t) none in
@@ -80,13 +80,16 @@ some_args (suc m) lt =
 abbrev deep : List Token → Outcome (List Arg)
 deep ts = Deep ts
 
-pub fits_args : (n : ℕ) → Fits (0 ∷ []) after_args 1 rule.Args read.args n
-unfolding rule.Args read.args nothing
+pub fits_args : (n : ℕ) → Fits (0 ∷ []) after_args 1 (Some []) rule.Args read.args n
+unfolding rule.Args read.args too_deep
 fits_args zero = record {
   sound = λ t a b h. cc;
   complete = λ t a b r o. absurd r;
   first = λ t a b r. absurd r;
   size = λ t a b r. absurd r;
+  deep_sound = λ a b h. cc;
+  deep_complete = λ a b r. ap deep r;
+  deep_first = λ a b r. inr refl;
   takes = λ a. none a;
   local = λ a a' b' s. ap deep (swap_same a a' b' s);
   deeper = λ m le t a b r. absurd r;
@@ -100,9 +103,12 @@ fits_args (suc n) = let f = fits_arguments (fits_args n) in record {
   complete = f.complete;
   first = f.first;
   size = f.size;
+  deep_sound = f.deep_sound;
+  deep_complete = f.deep_complete;
+  deep_first = λ a b r. elim (f.deep_first a b r) [ inl i ↦ inl i | inr never ↦ absurd never ];
   takes = f.takes;
   local = f.local;
-  deeper = λ m le t a b r. by_suc n (λ j. rule.Args j t a b) (λ k l. f.deeper k l t a b r) m le;
+  deeper = λ m le t a b r. by_suc n (λ j. (rule.Args j).spells t a b) (λ k l. f.deeper k l t a b r) m le;
   below = λ m le a. by_suc n (λ j. Below (read.arguments (expr n) (read.args n) a) (read.args j a)) (λ k l. f.below k l a) m le;
   puts = f.puts;
   goes = λ a b h m lt. by_suc (suc n) (λ j. Goes_on (rule.Args j) a b) (λ k l. f.goes a b h k l) m lt;

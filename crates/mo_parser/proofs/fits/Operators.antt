@@ -94,23 +94,23 @@ tells_literal t = literal_tells t.kind
 pub valued : {A : Type 0} (f : Token → Option A) (ms : List ℕ) → Tells (λ t. is_some (f t)) ms → (t : Token) (x : A) → f t ≡ Some x → among ms (tag t.kind) ≡ true
 valued f ms tells t x h = sym (tells t) ∙ ap (λ (o : Option _). is_some o) h
 
-pub fits_or : {n : ℕ} → Fits (kw w.KwOr ∷ []) [] 1 (λ _. rule.one or_of) (λ _. read.one or_of) n
+pub fits_or : {n : ℕ} → Fits (kw w.KwOr ∷ []) [] 1 None (λ _. rule.one or_of) (λ _. read.one or_of) n
 unfolding or_of example
 fits_or = fits_one or_of (kw w.KwOr ∷ []) (valued or_of (kw w.KwOr ∷ []) tells_or) refl (example (k.Keyword w.KwOr)) op.Or refl
 
-pub fits_and : {n : ℕ} → Fits (kw w.KwAnd ∷ []) [] 1 (λ _. rule.one and_of) (λ _. read.one and_of) n
+pub fits_and : {n : ℕ} → Fits (kw w.KwAnd ∷ []) [] 1 None (λ _. rule.one and_of) (λ _. read.one and_of) n
 unfolding and_of example
 fits_and = fits_one and_of (kw w.KwAnd ∷ []) (valued and_of (kw w.KwAnd ∷ []) tells_and) refl (example (k.Keyword w.KwAnd)) op.And refl
 
-pub fits_sum : {n : ℕ} → Fits sums [] 1 (λ _. rule.one sum_of) (λ _. read.one sum_of) n
+pub fits_sum : {n : ℕ} → Fits sums [] 1 None (λ _. rule.one sum_of) (λ _. read.one sum_of) n
 unfolding sum_of example
 fits_sum = fits_one sum_of sums (valued sum_of sums tells_sum) refl (example (k.Symbol s.Plus)) op.Plus refl
 
-pub fits_product : {n : ℕ} → Fits products [] 1 (λ _. rule.one product_of) (λ _. read.one product_of) n
+pub fits_product : {n : ℕ} → Fits products [] 1 None (λ _. rule.one product_of) (λ _. read.one product_of) n
 unfolding product_of example
 fits_product = fits_one product_of products (valued product_of products tells_product) refl (example (k.Symbol s.Times)) op.Times refl
 
-pub fits_relation : {n : ℕ} → Fits relations [] 1 (λ _. rule.one relation_of) (λ _. read.one relation_of) n
+pub fits_relation : {n : ℕ} → Fits relations [] 1 None (λ _. rule.one relation_of) (λ _. read.one relation_of) n
 unfolding relation_of example
 fits_relation = fits_one relation_of relations (valued relation_of relations tells_relation) refl (example (k.Symbol s.Less)) rel.Less refl
 
@@ -118,6 +118,6 @@ constant_some : (o : Option Value) (t : Token) (x : TreeExpr) → constant_by o 
 constant_some (Some v) t x h = refl
 constant_some None t x h = cc
 
-pub fits_literal : {n : ℕ} → Fits literals [] 1 (λ _. rule_of.literal) (λ _. read_of.literal) n
+pub fits_literal : {n : ℕ} → Fits literals [] 1 None (λ _. rule_of.literal) (λ _. read_of.literal) n
 unfolding rule_of.literal read_of.literal literal_of example
 fits_literal = fits_one (λ t. constant_by (literal_of t) t) literals (λ t x h. sym (tells_literal t) ∙ constant_some (literal_of t) t x h) refl (example (k.Keyword w.KwTrue)) (spanning (n.Const (value.Bool true)) 0 0) refl

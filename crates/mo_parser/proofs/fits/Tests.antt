@@ -1,5 +1,5 @@
 -- Which kinds of tokens the tests on a token tell, and what fits a single token.
-use Rattle.std.proofs.Common.{◌≡◌, ◌∙◌, ◌||◌, ℕ, Bool, true, false, nat_eq, List, [], ◌∷◌, Some, refl, sym, arith}
+use Rattle.std.proofs.Common.{None, ◌≡◌, ◌∙◌, ◌||◌, ℕ, Bool, true, false, nat_eq, List, [], ◌∷◌, Some, refl, sym, arith}
 use Rattle.std.proofs.lemmas.Bool.{eqb-true, eq-eqb}
 use denote.Enum.Bare.{true_same}
 use denote.Enum.Declared.{tag_of}
@@ -95,24 +95,24 @@ module _ (test : Token → Bool) (ms : List ℕ) (tells : Tells test ms) (no_end
 unfoldable pub example : TokenKind → Token
 example kind = record { kind = kind; at = 0; end = 0 }
 
-pub fits_symbol : {n : ℕ} (x : Sym) → Fits (sy x ∷ []) [] 1 (λ _. rule.symbol x) (λ _. read.symbol x) n
+pub fits_symbol : {n : ℕ} (x : Sym) → Fits (sy x ∷ []) [] 1 None (λ _. rule.symbol x) (λ _. read.symbol x) n
 unfolding rule.symbol read.symbol is_symbol same_symbol example
 fits_symbol x =
     let yes : is_symbol x (example (k.Symbol x)) ≡ true = true_same the_symbols.the_type x x refl in
     let no_end : among (sy x ∷ []) 4 ≡ false = sym (not_same (sy x) 4 (λ e. omega (arith, e))) in
     fits_one (λ t. when (is_symbol x t) t) (sy x ∷ []) (taken (is_symbol x) (sy x ∷ []) (tells_symbol x) no_end) no_end (example (k.Symbol x)) (example (k.Symbol x)) (rw yes refl)
 
-pub fits_word : {n : ℕ} (x : Word) → Fits (kw x ∷ []) [] 1 (λ _. rule.word x) (λ _. read.word x) n
+pub fits_word : {n : ℕ} (x : Word) → Fits (kw x ∷ []) [] 1 None (λ _. rule.word x) (λ _. read.word x) n
 unfolding rule.word read.word is_word same_word example
 fits_word x =
     let yes : is_word x (example (k.Keyword x)) ≡ true = true_same the_words.the_type x x refl in
     let no_end : among (kw x ∷ []) 4 ≡ false = sym (not_same (kw x) 4 (λ e. omega (arith, e))) in
     fits_one (λ t. when (is_word x t) t) (kw x ∷ []) (taken (is_word x) (kw x ∷ []) (tells_word x) no_end) no_end (example (k.Keyword x)) (example (k.Keyword x)) (rw yes refl)
 
-pub fits_ident : {n : ℕ} → Fits (0 ∷ []) [] 1 (λ _. rule.ident) (λ _. read.ident) n
+pub fits_ident : {n : ℕ} → Fits (0 ∷ []) [] 1 None (λ _. rule.ident) (λ _. read.ident) n
 unfolding rule.ident read.ident is_ident example
 fits_ident = fits_one (λ t. when (is_ident t) t) (0 ∷ []) (taken is_ident (0 ∷ []) tells_ident refl) refl (example k.Ident) (example k.Ident) refl
 
-pub fits_text : {n : ℕ} → Fits (3 ∷ []) [] 1 (λ _. rule.text) (λ _. read.text) n
+pub fits_text : {n : ℕ} → Fits (3 ∷ []) [] 1 None (λ _. rule.text) (λ _. read.text) n
 unfolding rule.text read.text is_text example
 fits_text = fits_one (λ t. when (is_text t) t) (3 ∷ []) (taken is_text (3 ∷ []) tells_text refl) refl (example k.Text) (example k.Text) refl

@@ -1,5 +1,5 @@
 -- Which kinds of tokens begin comments, elements, equations and classes.
-use Rattle.std.proofs.Common.{◌≡◌, ◌∙◌, ◌+◌, ◌++◌, ◌&&◌, ℕ, zero, suc, Bool, true, false, is_some, List, [], ◌∷◌, Some, refl, sym}
+use Rattle.std.proofs.Common.{None, ◌≡◌, ◌∙◌, ◌+◌, ◌++◌, ◌&&◌, ℕ, zero, suc, Bool, true, false, is_some, List, [], ◌∷◌, Some, refl, sym}
 use Rattle.std.proofs.lemmas.Slice.Eq.{bytes_eq-Decides}
 use Rattle.std.specs.Str.{bytes_eq}
 use Rattle.mo_lexer.specs.declared.token.Token.{Token}
@@ -161,23 +161,23 @@ pub tells_class : Tells begins_class class_starts
 unfolding begins_class
 tells_class t = class_start_tells t.kind
 
-pub fits_plain : {n : ℕ} → Fits plains [] 1 (λ _. rule.one (λ t. when (is_plain t) t)) (λ _. read.one (λ t. when (is_plain t) t)) n
+pub fits_plain : {n : ℕ} → Fits plains [] 1 None (λ _. rule.one (λ t. when (is_plain t) t)) (λ _. read.one (λ t. when (is_plain t) t)) n
 unfolding is_plain example every_other
 fits_plain = fits_one (λ t. when (is_plain t) t) plains (taken is_plain plains tells_plain refl) refl (example k.Ident) (example k.Ident) refl
 
-pub fits_variability : {n : ℕ} → Fits variabilities [] 1 (λ _. rule.one variability_of) (λ _. read.one variability_of) n
+pub fits_variability : {n : ℕ} → Fits variabilities [] 1 None (λ _. rule.one variability_of) (λ _. read.one variability_of) n
 unfolding variability_of example
 fits_variability = fits_one variability_of variabilities (valued variability_of variabilities tells_variability) refl (example (k.Keyword w.KwParameter)) variability.Parameter refl
 
-pub fits_causality : {n : ℕ} → Fits causalities [] 1 (λ _. rule.one causality_of) (λ _. read.one causality_of) n
+pub fits_causality : {n : ℕ} → Fits causalities [] 1 None (λ _. rule.one causality_of) (λ _. read.one causality_of) n
 unfolding causality_of example
 fits_causality = fits_one causality_of causalities (valued causality_of causalities tells_causality) refl (example (k.Keyword w.KwInput)) causality.Input refl
 
-pub fits_class_kind : {n : ℕ} → Fits long_starts [] 1 (λ _. rule.one class_of) (λ _. read.one class_of) n
+pub fits_class_kind : {n : ℕ} → Fits long_starts [] 1 None (λ _. rule.one class_of) (λ _. read.one class_of) n
 unfolding class_of example
 fits_class_kind = fits_one class_of long_starts (valued class_of long_starts tells_long) refl (example (k.Keyword w.KwModel)) class.Model refl
 
-pub fits_visibility : {n : ℕ} → Fits visibilities [] 1 (λ _. rule.one visibility_of) (λ _. read.one visibility_of) n
+pub fits_visibility : {n : ℕ} → Fits visibilities [] 1 None (λ _. rule.one visibility_of) (λ _. read.one visibility_of) n
 unfolding visibility_of example
 fits_visibility = fits_one visibility_of visibilities (valued visibility_of visibilities tells_visibility) refl (example (k.Keyword w.KwPublic)) tt refl
 
@@ -196,7 +196,7 @@ own_taken text x t y h = go (is_ident t) refl h
     go true e h = sym (tells_ident t) ∙ e
     go false e h = cc
 
-pub fits_same_ident : {n : ℕ} (text : List ℕ) (x : Token) → Fits (0 ∷ []) [] 1 (λ _. rule_of.same_ident text x) (λ _. read_of.same_ident text x) n
+pub fits_same_ident : {n : ℕ} (text : List ℕ) (x : Token) → Fits (0 ∷ []) [] 1 None (λ _. rule_of.same_ident text x) (λ _. read_of.same_ident text x) n
 unfolding rule_of.same_ident read_of.same_ident is_ident spelling
 fits_same_ident text x =
     let y : Token = record { kind = k.Ident; at = x.at; end = x.end } in

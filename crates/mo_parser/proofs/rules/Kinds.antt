@@ -1,5 +1,5 @@
 -- A number for each kind of token, and lists of such numbers.
-use Rattle.std.proofs.Common.{◌≡◌, ℕ, zero, suc, ◌⊎◌, inl, inr, ◌+◌, ◌*◌, Bool, true, false, not, ◌||◌, ◌&&◌, nat_eq, List, [], ◌∷◌, ◌++◌, refl, ap, sym, ◌∙◌, arith}
+use Rattle.std.proofs.Common.{◌≡◌, ℕ, zero, suc, ◌⊎◌, inl, inr, ◌+◌, ◌*◌, Bool, true, false, not, ◌||◌, ◌&&◌, nat_eq, List, [], ◌∷◌, ◌++◌, Option, Some, None, refl, ap, sym, ◌∙◌, arith}
 use Rattle.std.proofs.lemmas.Bool.{eqb-true}
 use Rattle.mo_lexer.specs.declared.token.Token.{Token}
 use Rattle.mo_lexer.specs.declared.token.TokenKind.{TokenKind}
@@ -9,7 +9,7 @@ use Rattle.mo_lexer.specs.declared.token.Sym.{Sym}
 use Rattle.mo_lexer.specs.contracts.token.Word as the_words
 use Rattle.mo_lexer.specs.contracts.token.Sym as the_symbols
 use denote.Enum.Declared.{tag_of}
-use Rattle.mo_parser.specs.reading.Outcomes.{head}
+use Rattle.mo_parser.specs.grammar.Places.{head}
 
 -- words have even numbers and symbols odd ones
 abbrev pub kw : Word → ℕ
@@ -118,6 +118,42 @@ out_right (x ∷ xs) ys n o =
 abbrev pub if_none : ℕ → List ℕ → List ℕ
 if_none zero ms = ms
 if_none (suc n) ms = []
+
+-- what begins a place that is too deep at once: any token but those of the list
+abbrev pub At_once : Option (List ℕ) → List Token → Type 0
+At_once None a = ⊥
+At_once (Some ms) a = Out ms a
+
+-- none of the tokens at which a rule begins, or at once is too deep, is in the list
+abbrev pub parted : List ℕ → Option (List ℕ) → List ℕ → Bool
+parted s None ms = apart s ms
+parted s (Some xs) ms = apart s ms && within ms xs
+
+pub parted_apart : (s : List ℕ) (o : Option (List ℕ)) (ms : List ℕ) → parted s o ms ≡ true → apart s ms ≡ true
+parted_apart s None ms fine = fine
+parted_apart s (Some xs) ms fine = (both_true (apart s ms) (within ms xs) fine).0
+
+pub begun_out : (s : List ℕ) (o : Option (List ℕ)) (ms : List ℕ) (a : List Token) → parted s o ms ≡ true → In s a ⊎ At_once o a → Out ms a
+begun_out s o ms a fine (inl i) = among_apart s ms _ (parted_apart s o ms fine) i
+begun_out s None ms a fine (inr never) = absurd never
+begun_out s (Some xs) ms a fine (inr out) = out_within ms xs _ (both_true (apart s ms) (within ms xs) fine).1 out
+
+-- where a sequence is too deep at once, by the first rule, or by the second if the first may spell no tokens
+abbrev pub joint : Option (List ℕ) → ℕ → Option (List ℕ) → Option (List ℕ)
+joint None zero o = o
+joint None (suc l) o = None
+joint (Some ms) zero o = Some []
+joint (Some ms) (suc l) o = Some ms
+
+pub joint_left : (o : Option (List ℕ)) (l : ℕ) (p : Option (List ℕ)) (a : List Token) → At_once o a → At_once (joint o l p) a
+joint_left None l p a never = absurd never
+joint_left (Some ms) zero p a out = refl
+joint_left (Some ms) (suc l) p a out = out
+
+pub joint_right : (o : Option (List ℕ)) (p : Option (List ℕ)) (a : List Token) → At_once p a → At_once (joint o 0 p) a
+joint_right None p a there = there
+joint_right (Some ms) None a never = absurd never
+joint_right (Some ms) (Some xs) a there = refl
 
 pub never_none : {X : Type 0} → ◌≡◌ {A = ℕ} 1 0 → X
 never_none e = absurd (omega arith)

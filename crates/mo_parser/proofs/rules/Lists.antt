@@ -1,8 +1,8 @@
 -- Lists of tokens that agree up to a place, and outcomes that are moved there.
 use Rattle.std.proofs.Common.{◌≡◌, ◌≤◌, ◌⊎◌, inl, inr, suc, List, [], ◌∷◌, length, refl, ap, sym, subst, arith}
 use Rattle.mo_lexer.specs.declared.token.Token.{Token}
-use Rattle.mo_parser.specs.grammar.Places.{Front, Swap, here, next, start, there}
-use Rattle.mo_parser.specs.reading.Outcomes.{Outcome, Parser, Read, Stuck, Deep, and_then, head, tail}
+use Rattle.mo_parser.specs.grammar.Places.{Front, Swap, head, here, next, start, there}
+use Rattle.mo_parser.specs.reading.Outcomes.{Outcome, Parser, Read, Stuck, Deep, and_then, tail}
 
 -- c is what is left of a after some tokens
 pub data Tail : List Token → List Token → Type 0 where
@@ -106,6 +106,11 @@ pub parts_read : {A B : Type 0} (o : Outcome A) (f : A → Parser B) (y : B) (re
 parts_read (Read x after) f y rest h = (x, after, refl, h)
 parts_read (Stuck ts) f y rest h = cc
 parts_read (Deep ts) f y rest h = cc
+
+pub parts_deep : {A B : Type 0} (o : Outcome A) (f : A → Parser B) (c : List Token) → and_then o f ≡ Deep c → (o ≡ Deep c) ⊎ ((x : A) × (rest : List Token) × (o ≡ Read x rest) × (f x rest ≡ Deep c))
+parts_deep (Read x rest) f c h = inr (x, rest, refl, h)
+parts_deep (Stuck rest) f c h = cc
+parts_deep (Deep rest) f c h = inl (let same : rest ≡ c = cc in ap (λ (ts : List Token). Deep ts) same)
 
 pub parts_halt : {A B : Type 0} (o : Outcome A) (f : A → Parser B) (b : List Token) → Halts (and_then o f) b → Halts o b ⊎ ((x : A) × (rest : List Token) × (o ≡ Read x rest) × Halts (f x rest) b)
 parts_halt (Read x rest) f b h = inr (x, rest, refl, h)

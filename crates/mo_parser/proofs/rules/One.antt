@@ -1,9 +1,9 @@
 -- One token.
 use Rattle.std.proofs.Common.{◌≡◌, inl, ℕ, suc, true, false, List, [], ◌∷◌, length, Option, Some, None, refl, ap, sym, ◌∙◌, subst, arith}
 use Rattle.mo_lexer.specs.declared.token.Token.{Token}
-use Rattle.mo_parser.specs.grammar.Places.{Swap}
+use Rattle.mo_parser.specs.grammar.Places.{Swap, head}
 use Rattle.mo_parser.specs.grammar.Rules as rule
-use Rattle.mo_parser.specs.reading.Outcomes.{Outcome, Read, Stuck, head, tail, one_by}
+use Rattle.mo_parser.specs.reading.Outcomes.{Outcome, Read, Stuck, Deep, tail, one_by}
 use Rattle.mo_parser.specs.reading.Outcomes as read
 use Rattle.mo_parser.proofs.rules.Fits.{Fits, Goes_on}
 use Rattle.mo_parser.proofs.rules.Kinds.{among, tag}
@@ -24,6 +24,10 @@ module _ {A : Type 0} (f : Token → Option A) (tags : List ℕ) (is : (t : Toke
       (head a, there_is a x e ∙ ap (λ (ts : List Token). head a ∷ ts) rest, e ∙ ap (λ (y : A). Some y) value)
   sound_by t a b None e h = cc
 
+  deep_never : (a b : List Token) (o : Option A) → one_by o a ≡ Deep b → ⊥
+  deep_never a b (Some x) h = cc
+  deep_never a b None h = cc
+
   takes_by : (a : List Token) (o : Option A) → Tail a (rest_of (one_by o a))
   takes_by a (Some x) = tail_of a
   takes_by a None = none a
@@ -40,13 +44,16 @@ module _ {A : Type 0} (f : Token → Option A) (tags : List ℕ) (is : (t : Toke
   goes_by a b (Some y) h u x e = absurd h
   goes_by a b None h u x e = (x, λ c. (u ∷ c, u ∷ c, front_none a b (u ∷ c) h, (u, refl, e)))
 
-  pub fits_one : {n : ℕ} (u : Token) (x : A) → f u ≡ Some x → Fits tags [] 1 (λ _. rule.one f) (λ _. read.one f) n
+  pub fits_one : {n : ℕ} (u : Token) (x : A) → f u ≡ Some x → Fits tags [] 1 None (λ _. rule.one f) (λ _. read.one f) n
   unfolding rule.one
   fits_one u x e = record {
     sound = λ t a b h. sound_by t a b (f (head a)) refl h;
     complete = λ t a b r o. let (v, at, value) = r in rw (at, value) refl;
     first = λ t a b r. let (v, at, value) = r in inl (rw at (is v t value));
     size = λ t a b r. let (v, at, value) = r in let long : length a ≡ suc (length b) = ap length at in omega arith;
+    deep_sound = λ a b h. deep_never a b (f (head a)) h;
+    deep_complete = λ a b r. absurd r;
+    deep_first = λ a b r. absurd r;
     takes = λ a. takes_by a (f (head a));
     local = λ a a' b' s. local_by a a' b' (f (head a)) refl (ap f (sym (same_head a _ a' b' s))) s;
     deeper = λ m le t a b r. r;

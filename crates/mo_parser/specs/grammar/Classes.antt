@@ -10,7 +10,7 @@ use Rattle.mo_parser.specs.declared.tree.ClassKind.{ClassKind}
 use Rattle.mo_parser.specs.declared.tree.ClassKind.TheVariants as kind
 use Rattle.mo_parser.specs.declared.tree.Short.{Short}
 use Rattle.mo_parser.specs.declared.grammar.parts.Body.{Body}
-use Rattle.mo_parser.specs.grammar.Rules.{Spelling, ◌>>=◌, ◌>>◌, gives, one, either, many, dropped}
+use Rattle.mo_parser.specs.grammar.Rules.{Rule, ◌>>=◌, ◌>>◌, gives, one, either, many, dropped}
 use Rattle.mo_parser.specs.grammar.Kinds.{class_of, is_ident, same_name, visibility_of, when}
 use Rattle.mo_parser.specs.grammar.Names.{symbol, word, ident, name, span_of}
 use Rattle.mo_parser.specs.grammar.Modifications.{Args, in_brackets}
@@ -25,7 +25,7 @@ abbrev pub shortened : Token → Short → ClassDef
 shortened x sh = record { kind = kind.Connector; name = span_of x; elements = []; equations = []; short = Some sh }
 
 -- "within" [ name ] ";"
-unfoldable pub within : Spelling (Unit {0})
+unfoldable pub within : Rule (Unit {0})
 within = do
   word w.KwWithin
   dropped name
@@ -33,13 +33,13 @@ within = do
   gives tt
 
 -- an Ident that is spelled as the token
-unfoldable pub same_ident : List ℕ → Token → Spelling Token
+unfoldable pub same_ident : List ℕ → Token → Rule Token
 same_ident text x = one (λ t. when (is_ident t && same_name text x t) t)
 
 -- over the bytes of the text, inside fewer levels of brackets and if-expressions than one more than the number
 module _ (text : List ℕ) (n : ℕ) where
   -- ("public"|"protected") { element ";" } | "equation" { equation ";" }
-  unfoldable pub section : Body → Spelling Body
+  unfoldable pub section : Body → Rule Body
   section b = either (do
     one visibility_of
     es ← elements n b.elements
@@ -48,14 +48,14 @@ module _ (text : List ℕ) (n : ℕ) where
       es ← equations n b.equations
       gives (record { elements = b.elements; equations = es }))
 
-  unfoldable pub last_note : Spelling (Unit {0})
+  unfoldable pub last_note : Rule (Unit {0})
   last_note = do
     note (Balanced n)
     symbol s.Semicolon
     gives tt
 
   -- [ note ";" ] "end" Ident, the class's own
-  unfoldable pub ending : Token → Spelling (Unit {0})
+  unfoldable pub ending : Token → Rule (Unit {0})
   ending x = do
     dropped last_note
     word w.KwEnd
@@ -63,7 +63,7 @@ module _ (text : List ℕ) (n : ℕ) where
     gives tt
 
   -- [ texts ] { element ";" } { section } [ note ";" ] "end" Ident
-  unfoldable pub long : Token → Spelling Body
+  unfoldable pub long : Token → Rule Body
   long x = do
     dropped texts
     es ← elements n []
@@ -72,7 +72,7 @@ module _ (text : List ℕ) (n : ℕ) where
     gives b
 
   -- [ texts ] { element ";" } [ note ";" ] "end" Ident
-  unfoldable pub plain : Token → Spelling Body
+  unfoldable pub plain : Token → Rule Body
   plain x = do
     dropped texts
     es ← elements n []
@@ -80,11 +80,11 @@ module _ (text : List ℕ) (n : ℕ) where
     gives (record { elements = es; equations = [] })
 
   -- [ "(" [ args ] ")" ]
-  unfoldable pub short_args : Spelling (List Arg)
+  unfoldable pub short_args : Rule (List Arg)
   short_args = either (symbol s.RoundOpen >> in_brackets (Args n)) (gives [])
 
   -- "=" [ "input"|"output" ] name [ "(" [ args ] ")" ] comment
-  unfoldable pub short : Spelling Short
+  unfoldable pub short : Rule Short
   short = do
     symbol s.Equals
     c ← some_causality
@@ -94,7 +94,7 @@ module _ (text : List ℕ) (n : ℕ) where
     gives (record { causality = c; base = base.path; args = args })
 
   -- ("model"|"block"|"class") Ident long
-  unfoldable pub long_class : Spelling ClassDef
+  unfoldable pub long_class : Rule ClassDef
   long_class = do
     k ← one class_of
     x ← ident
@@ -102,7 +102,7 @@ module _ (text : List ℕ) (n : ℕ) where
     gives (bodied k x b)
 
   -- "connector" Ident ( plain | "=" short )
-  unfoldable pub connector : Spelling ClassDef
+  unfoldable pub connector : Rule ClassDef
   connector = do
     word w.KwConnector
     x ← ident
@@ -112,18 +112,18 @@ module _ (text : List ℕ) (n : ℕ) where
         b ← plain x
         gives (bodied kind.Connector x b))
 
-  unfoldable pub any_class : Spelling ClassDef
+  unfoldable pub any_class : Rule ClassDef
   any_class = either connector long_class
 
   -- class ";"
-  unfoldable pub class_line : List ClassDef → Spelling (List ClassDef)
+  unfoldable pub class_line : List ClassDef → Rule (List ClassDef)
   class_line cs = do
     c ← any_class
     symbol s.Semicolon
     gives (cs ++ c ∷ [])
 
   -- [ "within" [ name ] ";" ] { class ";" }
-  unfoldable pub file : Spelling Tree
+  unfoldable pub file : Rule Tree
   file = do
     dropped within
     cs ← many class_line []

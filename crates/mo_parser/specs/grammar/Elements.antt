@@ -9,7 +9,7 @@ use Rattle.mo_parser.specs.declared.tree.Causality.{Causality}
 use Rattle.mo_parser.specs.declared.tree.Causality.TheVariants as causality
 use Rattle.mo_parser.specs.declared.grammar.parts.Modification.{Modification}
 use Rattle.mo_parser.specs.declared.grammar.parts.Declared.{Declared}
-use Rattle.mo_parser.specs.grammar.Rules.{Spelling, ◌>>=◌, ◌>>◌, gives, one, either, many}
+use Rattle.mo_parser.specs.grammar.Rules.{Rule, ◌>>=◌, ◌>>◌, gives, one, either, many}
 use Rattle.mo_parser.specs.grammar.Kinds.{variability_of, causality_of}
 use Rattle.mo_parser.specs.grammar.Names.{symbol, ident, name, span_of}
 use Rattle.mo_parser.specs.grammar.Expressions.{Expr}
@@ -20,17 +20,17 @@ abbrev pub element_of : Declared → Token → Modification → Element
 element_of d x m = record { variability = d.variability; causality = d.causality; base = d.base; name = span_of x; args = m.args; binding = m.binding }
 
 -- [ "parameter"|"constant"|"discrete" ]
-unfoldable pub some_variability : Spelling Variability
+unfoldable pub some_variability : Rule Variability
 some_variability = either (one variability_of) (gives variability.Plain)
 
 -- [ "input"|"output" ]
-unfoldable pub some_causality : Spelling Causality
+unfoldable pub some_causality : Rule Causality
 some_causality = either (one causality_of) (gives causality.Plain)
 
 -- inside fewer levels of brackets and if-expressions than one more than the number
 module _ (n : ℕ) where
   -- Ident [ modif ] comment
-  unfoldable pub component : Declared → List Element → Spelling (List Element)
+  unfoldable pub component : Declared → List Element → Rule (List Element)
   component d es = do
     x ← ident
     m ← modification (Expr n) (Args n)
@@ -38,15 +38,15 @@ module _ (n : ℕ) where
     gives (es ++ element_of d x m ∷ [])
 
   -- "," component
-  unfoldable pub further_component : Declared → List Element → Spelling (List Element)
+  unfoldable pub further_component : Declared → List Element → Rule (List Element)
   further_component d es = symbol s.Comma >> component d es
 
   -- component { "," component }
-  unfoldable pub components : Declared → List Element → Spelling (List Element)
+  unfoldable pub components : Declared → List Element → Rule (List Element)
   components d es = component d es >>= many (further_component d)
 
   -- [ "parameter"|"constant"|"discrete" ] [ "input"|"output" ] name component { "," component } ";"
-  unfoldable pub element : List Element → Spelling (List Element)
+  unfoldable pub element : List Element → Rule (List Element)
   element es = do
     v ← some_variability
     c ← some_causality
@@ -55,5 +55,5 @@ module _ (n : ℕ) where
     symbol s.Semicolon
     gives all
 
-  unfoldable pub elements : List Element → Spelling (List Element)
+  unfoldable pub elements : List Element → Rule (List Element)
   elements = many element

@@ -4,13 +4,13 @@ use Rattle.mo_lexer.specs.declared.token.Sym.TheVariants as s
 use Rattle.mo_lexer.specs.declared.token.Word.TheVariants as w
 use Rattle.mo_parser.specs.declared.tree.TreeEq.{TreeEq}
 use Rattle.mo_parser.specs.declared.tree.TreeEq.TheVariants as q
-use Rattle.mo_parser.specs.grammar.Rules.{Spelling, ◌>>=◌, ◌>>◌, gives, either, many}
+use Rattle.mo_parser.specs.grammar.Rules.{Rule, ◌>>=◌, ◌>>◌, gives, either, many}
 use Rattle.mo_parser.specs.grammar.Names.{symbol, word, name}
 use Rattle.mo_parser.specs.grammar.Expressions.{Expr, level, simple}
 use Rattle.mo_parser.specs.grammar.Comments.{Balanced, comment}
 
 -- "connect" "(" name "," name ")"
-unfoldable pub connect : Spelling TreeEq
+unfoldable pub connect : Rule TreeEq
 connect = do
   word w.KwConnect
   symbol s.RoundOpen
@@ -23,7 +23,7 @@ connect = do
 -- inside fewer levels of brackets and if-expressions than one more than the number
 module _ (n : ℕ) where
   -- simple "=" expr
-  unfoldable pub equal : Spelling TreeEq
+  unfoldable pub equal : Rule TreeEq
   equal = do
     left ← simple (Expr n)
     symbol s.Equals
@@ -31,7 +31,7 @@ module _ (n : ℕ) where
     gives (q.Equal left right)
 
   -- simple "=" expr comment ";"
-  unfoldable pub clause_equation : List TreeEq → Spelling (List TreeEq)
+  unfoldable pub clause_equation : List TreeEq → Rule (List TreeEq)
   clause_equation es = do
     e ← equal
     comment (Balanced n)
@@ -39,7 +39,7 @@ module _ (n : ℕ) where
     gives (es ++ e ∷ [])
 
   -- "when" expr "then" { simple "=" expr comment ";" } "end" "when"
-  unfoldable pub clause : Spelling TreeEq
+  unfoldable pub clause : Rule TreeEq
   clause = do
     word w.KwWhen
     clock ← level (Expr n)
@@ -49,16 +49,16 @@ module _ (n : ℕ) where
     word w.KwWhen
     gives (q.When clock es)
 
-  unfoldable pub any_equation : Spelling TreeEq
+  unfoldable pub any_equation : Rule TreeEq
   any_equation = either clause (either connect equal)
 
   -- ( simple "=" expr | when | connect ) comment ";"
-  unfoldable pub equation : List TreeEq → Spelling (List TreeEq)
+  unfoldable pub equation : List TreeEq → Rule (List TreeEq)
   equation es = do
     e ← any_equation
     comment (Balanced n)
     symbol s.Semicolon
     gives (es ++ e ∷ [])
 
-  unfoldable pub equations : List TreeEq → Spelling (List TreeEq)
+  unfoldable pub equations : List TreeEq → Rule (List TreeEq)
   equations = many equation

@@ -8,64 +8,64 @@ use Rattle.mo_parser.specs.declared.tree.TreeExpr.{TreeExpr}
 use Rattle.mo_parser.specs.declared.grammar.parts.Links.{Links}
 use Rattle.mo_parser.specs.declared.grammar.parts.Branches.{Branches}
 use Rattle.mo_parser.specs.declared.grammar.parts.Arguments.{Arguments}
-use Rattle.mo_parser.specs.grammar.Rules.{Spelling, ◌>>=◌, ◌>>◌, gives, one, either, nothing, many}
-use Rattle.mo_parser.specs.grammar.Kinds.{literal_of, relation_of, or_of, and_of, sum_of, product_of}
+use Rattle.mo_parser.specs.grammar.Rules.{Rule, ◌>>=◌, ◌>>◌, gives, one, either, inside, many, too_deep}
+use Rattle.mo_parser.specs.grammar.Kinds.{is_symbol, literal_of, relation_of, or_of, and_of, sum_of, product_of}
 use Rattle.mo_parser.specs.grammar.Names.{symbol, word, name}
 use Rattle.mo_parser.specs.grammar.Trees.{constant_by, named_expr, called, powered, negated, inverted, related, widened, begins, ends, alone, linked, chained, no_branches, branched, chosen}
 
 -- part { op part } with the operators that the function tells
-module _ (op_of : Token → Option ChainOp) (part : Spelling TreeExpr) where
-  unfoldable pub link : Links → Spelling Links
+module _ (op_of : Token → Option ChainOp) (part : Rule TreeExpr) where
+  unfoldable pub link : Links → Rule Links
   link l = do
     op ← one op_of
     e ← part
     gives (linked l op e)
 
   -- behind the first part
-  unfoldable pub links : TreeExpr → Spelling TreeExpr
+  unfoldable pub links : TreeExpr → Rule TreeExpr
   links first = either (do
     l ← link (alone first)
     all ← many link l
     gives (chained (begins first) all)) (gives first)
 
 -- Integer | "true" | "false"
-unfoldable pub literal : Spelling TreeExpr
+unfoldable pub literal : Rule TreeExpr
 literal = one (λ t. constant_by (literal_of t) t)
 
 -- the rules, where whole expressions one level deeper are spelled by the parameter
-module _ (whole : Spelling TreeExpr) where
+module _ (whole : Rule TreeExpr) where
   -- "(" expr ")"
-  unfoldable pub bracketed : Spelling TreeExpr
+  unfoldable pub bracketed : Rule TreeExpr
   bracketed = do
     first ← symbol s.RoundOpen
-    e ← whole
+    e ← inside (is_symbol s.RoundClose) whole
     last ← symbol s.RoundClose
     gives (widened first.at last.end e)
 
   -- "," expr
-  unfoldable pub further : List TreeExpr → Spelling (List TreeExpr)
+  unfoldable pub further : List TreeExpr → Rule (List TreeExpr)
   further es = do
     symbol s.Comma
     e ← whole
     gives (es ++ e ∷ [])
 
   -- expr { "," expr }
-  unfoldable pub listed : Spelling (List TreeExpr)
+  unfoldable pub listed : Rule (List TreeExpr)
   listed = do
     e ← whole
     many further (e ∷ [])
 
   -- [ expr { "," expr } ] ")"
-  unfoldable pub arguments : Spelling Arguments
+  unfoldable pub arguments : Rule Arguments
   arguments = either (do
     last ← symbol s.RoundClose
     gives (record { all = []; end = last.end })) (do
-      es ← listed
+      es ← inside (is_symbol s.RoundClose) listed
       last ← symbol s.RoundClose
       gives (record { all = es; end = last.end }))
 
   -- name [ "(" [ expr { "," expr } ] ")" ]
-  unfoldable pub reference : Spelling TreeExpr
+  unfoldable pub reference : Rule TreeExpr
   reference = do
     x ← name
     either (do
@@ -73,11 +73,11 @@ module _ (whole : Spelling TreeExpr) where
       es ← arguments
       gives (called x es)) (gives (named_expr x))
 
-  unfoldable pub primary : Spelling TreeExpr
+  unfoldable pub primary : Rule TreeExpr
   primary = either literal (either bracketed reference)
 
   -- primary [ "^" primary ]
-  unfoldable pub factor : Spelling TreeExpr
+  unfoldable pub factor : Rule TreeExpr
   factor = do
     base ← primary
     either (do
@@ -86,11 +86,11 @@ module _ (whole : Spelling TreeExpr) where
       gives (powered base exponent)) (gives base)
 
   -- factor { ("*"|"/") factor }
-  unfoldable pub term : Spelling TreeExpr
+  unfoldable pub term : Rule TreeExpr
   term = factor >>= links product_of factor
 
   -- [ "+"|"-" ] term
-  unfoldable pub signed : Spelling TreeExpr
+  unfoldable pub signed : Rule TreeExpr
   signed = either (do
     sign ← symbol s.Plus
     e ← term
@@ -100,11 +100,11 @@ module _ (whole : Spelling TreeExpr) where
       gives (negated sign.at e)) term)
 
   -- [ "+"|"-" ] term { ("+"|"-") term }
-  unfoldable pub arith : Spelling TreeExpr
+  unfoldable pub arith : Rule TreeExpr
   arith = signed >>= links sum_of term
 
   -- arith [ ("<"|"<="|">"|">="|"=="|"<>") arith ]
-  unfoldable pub rel : Spelling TreeExpr
+  unfoldable pub rel : Rule TreeExpr
   rel = do
     a ← arith
     either (do
@@ -113,33 +113,33 @@ module _ (whole : Spelling TreeExpr) where
       gives (related r a b)) (gives a)
 
   -- [ "not" ] rel
-  unfoldable pub lit : Spelling TreeExpr
+  unfoldable pub lit : Rule TreeExpr
   lit = either (do
     not_word ← word w.KwNot
     e ← rel
     gives (inverted not_word.at e)) rel
 
   -- lit { "and" lit }
-  unfoldable pub conj : Spelling TreeExpr
+  unfoldable pub conj : Rule TreeExpr
   conj = lit >>= links and_of lit
 
   -- conj { "or" conj }
-  unfoldable pub simple : Spelling TreeExpr
+  unfoldable pub simple : Rule TreeExpr
   simple = conj >>= links or_of conj
 
   -- expr "then" expr, behind "if" or "elseif"
-  unfoldable pub branch : Branches → Spelling Branches
+  unfoldable pub branch : Branches → Rule Branches
   branch b = do
     c ← whole
     word w.KwThen
     e ← whole
     gives (branched b c e)
 
-  unfoldable pub other_branch : Branches → Spelling Branches
+  unfoldable pub other_branch : Branches → Rule Branches
   other_branch b = word w.KwElseif >> branch b
 
   -- "if" expr "then" expr { "elseif" expr "then" expr } "else" expr
-  unfoldable pub choice : Spelling TreeExpr
+  unfoldable pub choice : Rule TreeExpr
   choice = do
     if_word ← word w.KwIf
     b ← branch no_branches
@@ -148,10 +148,10 @@ module _ (whole : Spelling TreeExpr) where
     e ← whole
     gives (chosen if_word.at all e)
 
-  unfoldable pub level : Spelling TreeExpr
+  unfoldable pub level : Rule TreeExpr
   level = either choice simple
 
 -- whole expressions in which a token stands inside fewer levels of brackets and if-expressions than the number
-unfoldable pub Expr : ℕ → Spelling TreeExpr
-Expr zero = nothing
+unfoldable pub Expr : ℕ → Rule TreeExpr
+Expr zero = too_deep
 Expr (suc n) = level (Expr n)

@@ -8,13 +8,11 @@ use Rattle.mo_parser.specs.declared.syntax.SyntaxCode.{SyntaxCode}
 use Rattle.mo_parser.specs.declared.syntax.SyntaxCode.TheVariants as code
 use Rattle.mo_parser.specs.grammar.Kinds.{is_end, is_foreign}
 use Rattle.mo_parser.specs.grammar.Classes.{file}
-use Rattle.mo_parser.specs.grammar.Places.{Front, Swap}
-use Rattle.mo_parser.specs.reading.Outcomes.{Deep, head}
-use Rattle.mo_parser.specs.reading.Classes as reading
+use Rattle.mo_parser.specs.grammar.Places.{Front, Swap, head}
 
 -- the tokens up to their end spell the tree, where so many levels of brackets and if-expressions may be opened
 abbrev pub Spells : List ℕ → ℕ → Tree → List Token → Type 0
-Spells text n tree tokens = (rest : List Token) × file text n tree tokens rest × (is_end (head rest) ≡ true)
+Spells text n tree tokens = (rest : List Token) × (file text n).spells tree tokens rest × (is_end (head rest) ≡ true)
 
 -- at most one tree spells a list of tokens
 abbrev pub OneTree : Type 0
@@ -28,9 +26,9 @@ GoesOn text tokens rest = (n : ℕ) × (t : Tree) × (a : List Token) × (b : Li
 abbrev pub GoesNoFurther : List ℕ → ℕ → List Token → List Token → Type 0
 GoesNoFurther text n tokens rest = (t : Tree) (a b : List Token) → Swap tokens rest a b → Spells text n t a → ⊥
 
--- the first token that stands inside more than n levels begins the rest
+-- the tokens before the rest stand inside at most n levels, and the next one inside more
 abbrev pub IsDeep : List ℕ → ℕ → List Token → List Token → Type 0
-IsDeep text n tokens rest = reading.file text n tokens ≡ Deep rest
+IsDeep text n tokens rest = (file text n).exceeds tokens rest
 
 -- the rest begins with the first token that nothing can stand at, at any depth, and no token before it is too deep
 pub record IsRefused (text : List ℕ) (n : ℕ) (tokens rest : List Token) : Type 0 where

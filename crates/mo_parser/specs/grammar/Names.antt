@@ -6,19 +6,19 @@ use Rattle.mo_lexer.specs.declared.token.Sym.{Sym}
 use Rattle.mo_lexer.specs.declared.token.Sym.TheVariants as s
 use Rattle.mo_parser.specs.declared.tree.Span.{Span}
 use Rattle.mo_parser.specs.declared.grammar.names.Named.{Named}
-use Rattle.mo_parser.specs.grammar.Rules.{Spelling, ◌>>=◌, ◌>>◌, gives, one, many}
+use Rattle.mo_parser.specs.grammar.Rules.{Rule, ◌>>=◌, ◌>>◌, gives, one, many}
 use Rattle.mo_parser.specs.grammar.Kinds.{is_symbol, is_word, is_ident, is_text, when}
 
-unfoldable pub symbol : Sym → Spelling Token
+unfoldable pub symbol : Sym → Rule Token
 symbol x = one (λ t. when (is_symbol x t) t)
 
-unfoldable pub word : Word → Spelling Token
+unfoldable pub word : Word → Rule Token
 word x = one (λ t. when (is_word x t) t)
 
-unfoldable pub ident : Spelling Token
+unfoldable pub ident : Rule Token
 ident = one (λ t. when (is_ident t) t)
 
-unfoldable pub text : Spelling Token
+unfoldable pub text : Rule Token
 text = one (λ t. when (is_text t) t)
 
 abbrev pub span_of : Token → Span
@@ -32,8 +32,8 @@ abbrev pub named_on : Named → Token → Named
 named_on n t = record { path = record { parts = n.path.parts ++ span_of t ∷ [] }; span = record { at = n.span.at; end = t.end } }
 
 -- name = Ident { "." Ident }
-unfoldable pub dotted : Named → Spelling Named
+unfoldable pub dotted : Named → Rule Named
 dotted n = symbol s.Dot >> ident >>= (λ t. gives (named_on n t))
 
-unfoldable pub name : Spelling Named
+unfoldable pub name : Rule Named
 name = ident >>= (λ t. many dotted (named t))

@@ -1,7 +1,12 @@
--- Lists of tokens that agree up to a place.
-use Rattle.std.specs.Prelude.{◌≡◌, List, ◌∷◌}
+-- Places in lists of tokens.
+use Rattle.std.specs.Prelude.{◌≡◌, List, [], ◌∷◌}
 use Rattle.mo_lexer.specs.declared.token.Token.{Token}
-use Rattle.mo_parser.specs.reading.Outcomes.{head}
+use Rattle.mo_lexer.specs.declared.token.TokenKind.TheVariants as k
+
+-- the next token, and one of the kind End where none is left
+abbrev pub head : List Token → Token
+head [] = record { kind = k.End; at = 0; end = 0 }
+head (t ∷ ts) = t
 
 -- a and a' have the same tokens before b and b', and the next token there is the same
 pub data Swap : List Token → List Token → List Token → List Token → Type 0 where

@@ -3,7 +3,7 @@ use Rattle.std.specs.Prelude.{ℕ, zero, suc}
 use Rattle.mo_lexer.specs.declared.token.Sym.{Sym}
 use Rattle.mo_lexer.specs.declared.token.Sym.TheVariants as s
 use Rattle.mo_lexer.specs.declared.token.Word.TheVariants as w
-use Rattle.mo_parser.specs.reading.Outcomes.{Parser, Deep, ◌>>=◌, ◌>>◌, gives, one, choose, many, dropped}
+use Rattle.mo_parser.specs.reading.Outcomes.{Parser, Deep, ◌>>=◌, ◌>>◌, gives, one, choose, unless, many, dropped}
 use Rattle.mo_parser.specs.grammar.Kinds.{begins_balanced, is_plain, is_symbol, is_text, is_word, when}
 use Rattle.mo_parser.specs.reading.Names.{symbol, word, text}
 
@@ -22,7 +22,7 @@ plain = one (λ t. when (is_plain t) t) >> gives tt
 module _ (nested : Parser (Unit {0})) where
   unfoldable pub in_pair : Sym → Parser (Unit {0})
   in_pair close = choose (is_symbol close) (symbol close >> gives tt) (do
-    nested
+    unless (is_symbol close) nested
     symbol close
     gives tt)
 

@@ -59,7 +59,7 @@ module _ (whole : Parser TreeExpr) where
   arguments = choose (is_symbol s.RoundClose) (do
     last ← symbol s.RoundClose
     gives (record { all = []; end = last.end })) (do
-      es ← listed
+      es ← unless (is_symbol s.RoundClose) listed
       last ← symbol s.RoundClose
       gives (record { all = es; end = last.end }))
 

@@ -6,7 +6,7 @@ use Rattle.mo_parser.specs.declared.tree.TreeExpr.{TreeExpr}
 use Rattle.mo_parser.specs.declared.grammar.parts.Modification.{Modification}
 use Rattle.mo_parser.specs.grammar.Kinds.{is_symbol, is_text}
 use Rattle.mo_parser.specs.grammar.Modifications.{argument_of}
-use Rattle.mo_parser.specs.reading.Outcomes.{Parser, Deep, ◌>>=◌, ◌>>◌, gives, choose, many, optional, dropped}
+use Rattle.mo_parser.specs.reading.Outcomes.{Parser, Deep, ◌>>=◌, ◌>>◌, gives, choose, unless, many, optional, dropped}
 use Rattle.mo_parser.specs.reading.Names.{symbol, name}
 use Rattle.mo_parser.specs.reading.Expressions.{expr, level}
 use Rattle.mo_parser.specs.reading.Comments.{texts}
@@ -16,7 +16,7 @@ value whole = symbol s.Equals >> level whole
 
 unfoldable pub in_brackets : Parser (List Arg) → Parser (List Arg)
 in_brackets nested = choose (is_symbol s.RoundClose) (symbol s.RoundClose >> gives []) (do
-  args ← nested
+  args ← unless (is_symbol s.RoundClose) nested
   symbol s.RoundClose
   gives args)
 

@@ -1,9 +1,9 @@
 -- How a list of tokens is read, one token ahead.
 use Rattle.std.specs.Prelude.{ℕ, zero, suc, ◌≡◌, Bool, if◌then◌else◌, List, [], ◌∷◌, length, Option, Some, None, Result, Ok, Err, ⊤}
 use Rattle.mo_lexer.specs.declared.token.Token.{Token}
-use Rattle.mo_lexer.specs.declared.token.TokenKind.TheVariants as k
 use Rattle.mo_parser.specs.declared.grammar.tokens.Halt.{Halt}
 use Rattle.mo_parser.specs.declared.grammar.tokens.Halt.TheVariants as halt
+use Rattle.mo_parser.specs.grammar.Places.{head}
 
 -- what was read with the tokens after it, or the tokens from the first one that nothing can stand at, or from the first that stands too deep
 pub data Outcome (A : Type 0) : Type 0 where
@@ -29,11 +29,6 @@ p >> q = p >>= (λ _. q)
 
 abbrev pub gives : {A : Type 0} → A → Parser A
 gives x ts = Read x ts
-
--- the next token, and one of the kind End where none is left
-abbrev pub head : List Token → Token
-head [] = record { kind = k.End; at = 0; end = 0 }
-head (t ∷ ts) = t
 
 abbrev pub tail : List Token → List Token
 tail [] = []

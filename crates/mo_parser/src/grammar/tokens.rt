@@ -1,6 +1,7 @@
 //! The tokens that are left to read.
 ghost use Rattle.std.specs.Prelude.{◌≡◌, length};
-ghost use Rattle.mo_parser.specs.reading.Outcomes.{head, tail};
+ghost use Rattle.mo_parser.specs.grammar.Places.{head};
+ghost use Rattle.mo_parser.specs.reading.Outcomes.{tail};
 
 use mo_lexer::{Token, TokenKind};
 use std::alloc::AllocError;
