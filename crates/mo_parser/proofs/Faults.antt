@@ -35,7 +35,7 @@ ended a h = end_out (head a).kind h
 
 module _ (text : List ℕ) where
   -- what is spelled is read, at any number of levels above
-  spelled_read : (m n : ℕ) (t : Tree) (tokens rest : List Token) → m ≤ n → (rule.file text m).spells t tokens rest → is_end (head rest) ≡ true → file text n tokens ≡ Read t rest
+  pub spelled_read : (m n : ℕ) (t : Tree) (tokens rest : List Token) → m ≤ n → (rule.file text m).spells t tokens rest → is_end (head rest) ≡ true → file text n tokens ≡ Read t rest
   spelled_read m n t tokens rest le r e = (fits_file text {n = n}).complete t tokens rest ((fits_file text {n = m}).deeper n le t tokens rest r) (ended rest e)
 
   -- a reading that ends without an answer, at more levels and at other tokens after the place

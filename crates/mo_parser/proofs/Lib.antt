@@ -2,3 +2,4 @@ pub mod Turns
 pub mod rules
 pub mod fits
 pub mod Faults
+pub mod OneFault

@@ -1,6 +1,6 @@
 //! The tree of a list of tokens.
 ghost use Rattle.std.specs.Prelude.{◌≡◌};
-ghost use Rattle.mo_parser.specs.grammar.Faults.{Answers, OneTree, refused_at};
+ghost use Rattle.mo_parser.specs.grammar.Faults.{Answers, FaultLaw, OneTree, refused_at};
 
 use crate::grammar::{Halt, Reader, Tokens, is_end, is_foreign};
 use crate::tree::Tree;
@@ -75,4 +75,9 @@ pub fn parse(alloc: Global, text: &[u8], tokens: &List<Token>) -> Result<Tree, P
 /// At most one tree spells a list of tokens.
 pub fn one_tree()
     ensures { OneTree }
+{}
+
+/// Each list of tokens has a tree or a fault, never both, and the fault has one code and one place.
+pub fn fault_law()
+    ensures { FaultLaw }
 {}

@@ -1,5 +1,5 @@
 -- What reading a list of tokens answers.
-use Rattle.std.specs.Prelude.{ℕ, ◌≡◌, Bool, true, false, List, Result, Ok, Err, ⊤}
+use Rattle.std.specs.Prelude.{ℕ, ◌≡◌, ◌⊎◌, Bool, true, false, List, Result, Ok, Err, ⊤}
 use Rattle.mo_lexer.specs.declared.token.Token.{Token}
 use Rattle.mo_parser.specs.declared.tree.Tree.{Tree}
 use Rattle.mo_parser.specs.declared.syntax.ParseEnd.{ParseEnd}
@@ -45,6 +45,12 @@ abbrev pub IsFault : List ℕ → ℕ → List Token → SyntaxCode → List Tok
 IsFault text n tokens code.S1 rest = IsRefused text n tokens rest × (is_foreign (head rest) ≡ false)
 IsFault text n tokens code.S2 rest = IsTooDeep text n tokens rest
 IsFault text n tokens code.S3 rest = IsRefused text n tokens rest × (is_foreign (head rest) ≡ true)
+
+-- each list of tokens has a tree or a fault, never both, and at most one fault
+pub record FaultLaw : Type 0 where
+  pub tree_or_fault : (text : List ℕ) (n : ℕ) (tokens : List Token) → ((t : Tree) × Spells text n t tokens) ⊎ ((c : SyntaxCode) × (rest : List Token) × IsFault text n tokens c rest)
+  pub never_both : (text : List ℕ) (n : ℕ) (tokens rest : List Token) (t : Tree) (c : SyntaxCode) → Spells text n t tokens → IsFault text n tokens c rest → ⊥
+  pub one_fault : (text : List ℕ) (n : ℕ) (tokens rest other : List Token) (c d : SyntaxCode) → IsFault text n tokens c rest → IsFault text n tokens d other → (c ≡ d) × (rest ≡ other)
 
 -- the tree, or a fault with the first byte of its token; want of memory is a free answer
 abbrev pub Answers : List ℕ → ℕ → List Token → Result Tree ParseEnd → Type 0
