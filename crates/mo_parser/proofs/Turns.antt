@@ -37,3 +37,7 @@ module _ {A : Type 0} {e : Outcome A} (test : Token → Bool) (step : A → Pars
 
 pub deeper : {X : Type 0} (f : ℕ → X) (n : ℕ) → 0 < n → f n ≡ f (suc (n - 1))
 deeper f n some = let e : n ≡ suc (n - 1) = omega arith in ap f e
+
+-- what follows a part that was read
+pub then_reads : {A B : Type 0} (o : Outcome A) (f : A → Parser B) (x : A) (at rest : List Token) (r : Result B Halt) → o ≡ Read x at → Reads (f x at) r rest → Reads (and_then o f) r rest
+then_reads o f x at rest r is next = rw is next

@@ -96,7 +96,8 @@ fn alone(alloc: Global, first: TreeExpr) -> Result<Links, Halt>
     ensures err { IfErr result (λ e. e ≡ Halt.NoMemory) }
 {
     let end = ends(&first);
-    let mut parts = List::new(alloc);
+    // Most chains have two parts.
+    let mut parts = List::with_capacity(alloc, 2)?;
     parts.push(first)?;
     Ok(Links {
         parts,
@@ -255,7 +256,8 @@ impl<F: Fn(Global, &mut Tokens<'_>, usize) -> Result<TreeExpr, Halt>> Grammar<F>
         ensures { Reads (spec.listed (spec.expr self.now.depth) tokens.old) result tokens.new }
     {
         let first = self.whole(tokens)?;
-        let mut all = List::new(self.alloc);
+        // Most calls have one argument or two.
+        let mut all = List::with_capacity(self.alloc, 2)?;
         all.push(first)?;
         self.all_further(tokens, all)
     }

@@ -134,7 +134,8 @@ impl<F: Fn(Global, &mut Tokens<'_>, usize) -> Result<List<Arg>, Halt>> Lists<F> 
         ensures { Reads (spec.arguments (expr self.now.depth) (spec.args self.now.depth) tokens.old) result tokens.new }
     {
         let first = self.argument(tokens)?;
-        let mut all = List::new(self.alloc);
+        // Most modifications have one argument.
+        let mut all = List::with_capacity(self.alloc, 1)?;
         all.push(first)?;
         self.more_arguments(tokens, all)
     }

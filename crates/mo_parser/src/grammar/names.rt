@@ -79,7 +79,8 @@ fn first_part(alloc: Global, token: Token) -> Result<Named, Halt>
     ensures ok { IfOk result (λ n. n ≡ named token) }
     ensures err { IfErr result (λ e. e ≡ Halt.NoMemory) }
 {
-    let mut parts = List::new(alloc);
+    // Most names have one part.
+    let mut parts = List::with_capacity(alloc, 1)?;
     parts.push(span_of(token))?;
     Ok(Named {
         path: Path { parts },
