@@ -1,5 +1,5 @@
 -- A recursion on a count of turns, beside a loop that counts up.
-use Rattle.std.proofs.Common.{◌≡◌, ◌⊎◌, inl, inr, ℕ, zero, suc, ◌+◌, ◌-◌, ◌<◌, ◌≤◌, Bool, true, false, List, Result, Err, ap, sym, subst, ◌∙◌, refl, arith}
+use Rattle.std.proofs.Common.{◌≡◌, ◌⊎◌, inl, inr, ℕ, zero, suc, ◌+◌, ◌-◌, ◌<◌, ◌≤◌, Bool, true, false, List, Result, Ok, Err, IfOk, IfErr, ap, sym, subst, ◌∙◌, refl, arith}
 use Rattle.mo_lexer.specs.declared.token.Token.{Token}
 use Rattle.mo_parser.specs.declared.grammar.tokens.Halt.{Halt}
 use Rattle.mo_parser.specs.declared.grammar.tokens.Halt.TheVariants as halt
@@ -41,3 +41,10 @@ deeper f n some = let e : n ≡ suc (n - 1) = omega arith in ap f e
 -- what follows a part that was read
 pub then_reads : {A B : Type 0} (o : Outcome A) (f : A → Parser B) (x : A) (at rest : List Token) (r : Result B Halt) → o ≡ Read x at → Reads (f x at) r rest → Reads (and_then o f) r rest
 then_reads o f x at rest r is next = rw is next
+
+-- a value that was made where memory did not fail
+pub made_reads : {A : Type 0} (x : A) (rest : List Token) (r : Result A Halt) → IfOk r (λ y. y ≡ x) → IfErr r (λ h. h ≡ halt.NoMemory) → Reads (Read x rest) r rest
+made_reads x rest (Ok y) is refused = ap (λ z. Read z rest) (sym is)
+made_reads x rest (Err halt.NoMemory) is refused = tt
+made_reads x rest (Err halt.Stuck) is refused = cc
+made_reads x rest (Err halt.Deep) is refused = cc
