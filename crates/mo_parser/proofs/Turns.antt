@@ -48,3 +48,9 @@ made_reads x rest (Ok y) is refused = ap (λ z. Read z rest) (sym is)
 made_reads x rest (Err halt.NoMemory) is refused = tt
 made_reads x rest (Err halt.Stuck) is refused = cc
 made_reads x rest (Err halt.Deep) is refused = cc
+
+pub then_is : {A B : Type 0} (o : Outcome A) (f : A → Parser B) (x : A) (at : List Token) (all : Outcome B) → o ≡ Read x at → f x at ≡ all → and_then o f ≡ all
+then_is o f x at all is next = rw is next
+
+pub same_value : {A : Type 0} (x y : A) (rest : List Token) → x ≡ y → Read y rest ≡ Read x rest
+same_value x y rest same = ap (λ z. Read z rest) (sym same)
