@@ -10,7 +10,7 @@ use Rattle.flat_model.specs.Views.{Views}
 use Rattle.flat_model.specs.Meaning.{value_of}
 use Rattle.flat_model.proofs.Values.{value_of-Apply, value_of-Const}
 use Rattle.flat_model.proofs.Evaluations.{settled_present}
-use Rattle.flat_model.proofs.tests.call.Goals as goal
+use Rattle.layer_tests.proofs.flat_models.call.Goals as goal
 
 two_present : (function : Fun) (a b : ℤ) → function ≢ Abs → called_with_two function a b ≢ Absent
 two_present Div a b some = settled_present (over b (exact_div a b))

@@ -1,6 +1,9 @@
 ghost use Rattle.std.specs.Prelude.{◌<◌};
 
-use crate::*;
+use outside_io::{
+    ErrSink, FileShelf, Gate, MemShelf, MemSink, OpenGate, OutSink, Read, ReadEnd, Shelf,
+    WriteFailed, put_all, read_whole,
+};
 use std::alloc::{AllocError, Global};
 use std::fs;
 use std::test::Fail;

@@ -9,7 +9,7 @@ use Rattle.flat_model.specs.Views.{Views}
 use Rattle.flat_model.specs.Meaning.{value_of}
 use Rattle.flat_model.proofs.Values.{value_of-Chain, value_of-Const}
 use Rattle.flat_model.proofs.Evaluations.{settled_present}
-use Rattle.flat_model.proofs.tests.chain.Goals as goal
+use Rattle.layer_tests.proofs.flat_models.chain.Goals as goal
 
 chain_present : (op : ChainOp) (a b : ℤ) (views : Views) → op ≢ Over → op ≢ And → op ≢ Or → value_of (Chain (Const (value.Int a) ∷ (Const (value.Int b) ∷ [])) (op ∷ [])) views ≢ Absent
 chain_present Plus a b views over and or = simp (value_of-Chain, value_of-Const) (settled_present (fitted (a +ℤ b)))

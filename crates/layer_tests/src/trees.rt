@@ -1,5 +1,5 @@
-use crate::{ParseEnd, SyntaxCode, TreeEq, TreeExpr, TreeNode, one_tree, parse};
 use mo_lexer::{Sym, Token, TokenKind, Word, lex};
+use mo_parser::{ParseEnd, SyntaxCode, TreeEq, TreeExpr, TreeNode, one_tree, parse};
 use std::alloc::Global;
 use std::process::Abort;
 use std::test::Fail;

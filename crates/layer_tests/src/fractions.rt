@@ -2,7 +2,10 @@ ghost use Rattle.std.specs.Prelude.{◌≡◌, ◌<◌, ◌*◌, ◌^◌, [], �
 ghost use Rattle.rational_time.specs.Fraction.{ArePartsBelow};
 ghost use Rattle.rational_time.specs.Multiple.{HasMultipleBelow};
 
-use super::*;
+use rational_time::{
+    Ratio, RatioFault, compare, floor_between, floor_times, gcd, lcm, make, moved, on_grid, plus,
+    read, scaled, share_instant, ticks_until,
+};
 use std::cmp::Ordering;
 use std::process::Abort;
 use std::test::Fail;
@@ -211,8 +214,8 @@ fn ticks_are_counted(rt: HostRuntime) {
 fn assert_grain(rt: &impl Abort, p: Ratio, s: Ratio, q: Ratio, r: Ratio)
     ensures { HasMultipleBelow (2 ^ 40) (p.den ∷ s.den ∷ q.den ∷ r.den ∷ []) }
 {
-    let first = lcm(p.den, s.den).expect(rt, "a multiple of 64 bits");
-    let second = lcm(q.den, r.den).expect(rt, "a multiple of 64 bits");
+    let first = lcm(p.den(), s.den()).expect(rt, "a multiple of 64 bits");
+    let second = lcm(q.den(), r.den()).expect(rt, "a multiple of 64 bits");
     assert!(rt; first > 0);
     assert!(rt; second > 0);
     let grain = lcm(first, second).expect(rt, "a multiple of 64 bits");

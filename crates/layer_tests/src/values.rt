@@ -1,9 +1,9 @@
-use crate::Fail::{Divide, TooLarge};
-use crate::{
+use std::test::Fail as TestFail;
+use sync_values::Fail::{Divide, TooLarge};
+use sync_values::{
     ChainOp, Fail, List, Rel, Text, Value, abs, add, div, greatest, least, modulo, mul, neg,
     relate, rem, sub,
 };
-use std::test::Fail as TestFail;
 
 #[test]
 fn sums_and_products(rt: HostRuntime) {

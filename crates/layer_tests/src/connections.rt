@@ -1,7 +1,7 @@
 ghost use Rattle.std.specs.Prelude.{IfOk};
 ghost use Rattle.mo_connect.specs.Chain.{AreBelow};
 
-use crate::{NoMemory, Pair, sets};
+use mo_connect::{NoMemory, Pair, sets};
 use std::alloc::Global;
 use std::process::Abort;
 use sync_values::List;

@@ -7,7 +7,7 @@ ghost use Rattle.flat_model.specs.Views.{Views};
 ghost use Rattle.flat_model.specs.Meaning.{value_of};
 ghost use Rattle.flat_model.specs.Samples.{may_stand};
 
-use crate::*;
+use flat_model::{Conversion, Elapsed, Expr, Fun, Lookup, eval, tick_law};
 use rational_time::{Ratio, make};
 use sqlite_items::Boxed;
 use std::alloc::{AllocError, Global};
@@ -65,7 +65,7 @@ fn at_moment() -> Shown {
 }
 
 /// The value of `a op b`.
-#[tactic(auto, using(crate::proofs::Values::values, crate::proofs::Standings::standings))]
+#[tactic(auto, using(flat_model::proofs::Values::values, flat_model::proofs::Standings::standings))]
 fn chain(alloc: Global, op: ChainOp, a: i64, b: i64) -> Result<Result<Value, Fail>, AllocError>
     requires over { op ≢ ChainOp.Over }
     requires and { op ≢ ChainOp.And }
@@ -78,7 +78,7 @@ fn chain(alloc: Global, op: ChainOp, a: i64, b: i64) -> Result<Result<Value, Fai
 }
 
 /// The value of a function of two numbers.
-#[tactic(auto, using(crate::proofs::Values::values, crate::proofs::Standings::standings))]
+#[tactic(auto, using(flat_model::proofs::Values::values, flat_model::proofs::Standings::standings))]
 fn call(alloc: Global, function: Fun, a: i64, b: i64) -> Result<Result<Value, Fail>, AllocError>
     requires { function ≢ Fun.Abs }
 {
@@ -88,7 +88,7 @@ fn call(alloc: Global, function: Fun, a: i64, b: i64) -> Result<Result<Value, Fa
 }
 
 /// The value of `a rel b`.
-#[tactic(auto, using(crate::proofs::Values::values, crate::proofs::Standings::standings))]
+#[tactic(auto, using(flat_model::proofs::Values::values, flat_model::proofs::Standings::standings))]
 fn relation(alloc: Global, rel: Rel, a: Value, b: Value) -> Result<Result<Value, Fail>, AllocError>
     requires { AreAlike a b }
 {
@@ -213,7 +213,7 @@ fn numbers_at_the_edges(rt: HostRuntime) -> Result<(), Failure> {
 }
 
 /// An expression that fails: `div(1, 0)`, or the number below the least with its sign turned.
-#[tactic(auto, using(crate::proofs::Values::values, crate::proofs::Standings::standings))]
+#[tactic(auto, using(flat_model::proofs::Values::values, flat_model::proofs::Standings::standings))]
 fn failing(alloc: Global, kind: Fail) -> Result<Expr, AllocError>
     ensures fails { IfOk result (λ e. (views : Views) → value_of e views ≡ Fails kind) }
     ensures plain { IfOk result (λ e. (vantage : Vantage) → may_stand e vantage ≡ true) }
@@ -231,7 +231,7 @@ fn failing(alloc: Global, kind: Fail) -> Result<Expr, AllocError>
 }
 
 /// The value of `b op div(1, 0)`.
-#[tactic(auto, using(crate::proofs::Values::values, crate::proofs::Standings::standings))]
+#[tactic(auto, using(flat_model::proofs::Values::values, flat_model::proofs::Standings::standings))]
 fn short_circuit(alloc: Global, b: bool, op: ChainOp) -> Result<Result<Value, Fail>, AllocError> {
     let parts = vec![in alloc; Expr::Const(Value::Bool(b)), failing(alloc, Fail::Divide)?]?;
     let ops = vec![in alloc; op]?;
@@ -240,7 +240,7 @@ fn short_circuit(alloc: Global, b: bool, op: ChainOp) -> Result<Result<Value, Fa
 }
 
 /// The value of `if b then div(1, 0) else 2`.
-#[tactic(auto, using(crate::proofs::Values::values, crate::proofs::Standings::standings))]
+#[tactic(auto, using(flat_model::proofs::Values::values, flat_model::proofs::Standings::standings))]
 fn choice(alloc: Global, b: bool) -> Result<Result<Value, Fail>, AllocError> {
     let conditions = vec![in alloc; Expr::Const(Value::Bool(b))]?;
     let branches = vec![in alloc; failing(alloc, Fail::Divide)?]?;
@@ -250,7 +250,7 @@ fn choice(alloc: Global, b: bool) -> Result<Result<Value, Fail>, AllocError> {
 }
 
 /// The value of the sum of two expressions that fail.
-#[tactic(auto, using(crate::proofs::Values::values, crate::proofs::Standings::standings))]
+#[tactic(auto, using(flat_model::proofs::Values::values, flat_model::proofs::Standings::standings))]
 fn two_failures(
     alloc: Global,
     first: Fail,
@@ -285,14 +285,14 @@ fn only_what_is_needed(rt: HostRuntime) -> Result<(), Failure> {
 }
 
 /// The value of `sample` of a name.
-#[tactic(auto, using(crate::proofs::Values::values, crate::proofs::Standings::standings))]
+#[tactic(auto, using(flat_model::proofs::Values::values, flat_model::proofs::Standings::standings))]
 fn sampled(alloc: Global, name: u32) -> Result<Result<Value, Fail>, AllocError> {
     let part = Boxed::new(alloc, Expr::Read(name))?;
     Ok(eval(&Expr::Sample(part, None), &at_moment()))
 }
 
 #[test]
-#[tactic(auto, using(crate::proofs::Values::values, crate::proofs::Standings::standings))]
+#[tactic(auto, using(flat_model::proofs::Values::values, flat_model::proofs::Standings::standings))]
 fn names_from_a_moment(rt: HostRuntime) -> Result<(), Failure> {
     let values = at_moment();
     assert_eq!(rt; eval(&Expr::Read(7), &values), Ok(Value::Int(7)));

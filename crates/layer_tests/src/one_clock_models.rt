@@ -1,7 +1,7 @@
-use super::{FormEnd, OneClock, one_clock};
 use flat_model::{ClockExpr, Equation, Expr, NameKind};
 use mo_lexer::lex;
 use mo_parser::parse;
+use one_clock::{FormEnd, OneClock, one_clock};
 use std::alloc::Global;
 use sync_values::Value;
 

@@ -1,5 +1,5 @@
-use crate::TokenKind::{End, Ident, Integer, Keyword, Real, Symbol};
-use crate::{LexCode, LexEnd, Sym, TokenKind, Word, lex, tokens_law};
+use mo_lexer::TokenKind::{End, Ident, Integer, Keyword, Real, Symbol};
+use mo_lexer::{LexCode, LexEnd, Sym, TokenKind, Word, lex, tokens_law};
 use std::alloc::Global;
 use std::process::Abort;
 use std::test::Fail;
