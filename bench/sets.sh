@@ -15,8 +15,8 @@ cp -r "$root/crates/sync_values" "$root/crates/mo_connect" "$scratch/crates/"
 cp "$root/HANDLES" "$scratch/"
 printf 'sync_values:\nmo_connect: sync_values\nsets_time: mo_connect sync_values\n' >"$scratch/crates.txt"
 # The proof of how a test lists its pairs serves here too.
-sed 's/Rattle.mo_connect.proofs.tests.listed/Rattle.sets_time.proofs.listed/' \
-    "$root/crates/mo_connect/proofs/tests/listed/Invariants.antt" >"$scratch/crates/sets_time/proofs/listed/Invariants.antt"
+sed 's/Rattle.layer_tests.proofs.connections.listed/Rattle.sets_time.proofs.listed/' \
+    "$root/crates/layer_tests/proofs/connections/listed/Invariants.antt" >"$scratch/crates/sets_time/proofs/listed/Invariants.antt"
 
 cat >"$scratch/crates/sets_time/src/main.rt" <<'PROGRAM'
 //! Joins 65,536 numbers by 200,000 pairs.

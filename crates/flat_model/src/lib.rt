@@ -27,6 +27,3 @@ pub use model::{FlatModel, FlatName, NameKind};
 pub use place::Place;
 pub use raw::{RawEq, RawExpr, RawModel};
 pub use table::{Left, Table};
-
-#[cfg(test)]
-mod tests;

@@ -43,6 +43,3 @@ pub fn sets(alloc: Global, count: u32, pairs: &List<Pair>) -> Result<List<List<u
     gather::keep_filled(&mut classes);
     Ok(List::from_vec(classes))
 }
-
-#[cfg(test)]
-mod tests;

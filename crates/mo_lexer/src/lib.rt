@@ -15,6 +15,3 @@ pub use law::tokens_law;
 pub use lexing::lex;
 pub use piece::Piece;
 pub use token::{Sym, Token, TokenKind, Word};
-
-#[cfg(test)]
-mod tests;

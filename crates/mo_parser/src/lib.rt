@@ -10,6 +10,3 @@ pub use tree::{
     Arg, Causality, ClassDef, ClassKind, Element, Path, Short, Span, Tree, TreeEq, TreeExpr,
     TreeNode, Variability,
 };
-
-#[cfg(test)]
-mod tests;

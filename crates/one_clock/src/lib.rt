@@ -13,6 +13,3 @@ mod typing;
 
 pub use form::{FormEnd, OneClock};
 pub use top::one_clock;
-
-#[cfg(test)]
-mod tests;

@@ -19,6 +19,3 @@ pub use shelf::{Read, Shelf};
 pub use sink::{Put, Sink, WriteFailed, put_all};
 pub use system::{ErrSink, FileShelf, OutSink};
 pub use whole::{ReadEnd, read_whole};
-
-#[cfg(test)]
-mod tests;

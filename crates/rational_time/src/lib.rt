@@ -17,6 +17,3 @@ pub use ratio::Ratio;
 pub use shift::moved;
 pub use ticks::{share_instant, ticks_until};
 pub use time_text::{RatioFault, read};
-
-#[cfg(test)]
-mod tests;

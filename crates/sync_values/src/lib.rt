@@ -12,6 +12,3 @@ pub use list::List;
 pub use relation::relate;
 pub use text::Text;
 pub use value::{ChainOp, Fail, Rel, Value};
-
-#[cfg(test)]
-mod tests;

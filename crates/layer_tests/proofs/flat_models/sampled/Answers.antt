@@ -11,7 +11,7 @@ use Rattle.flat_model.specs.Meaning.{value_of}
 use Rattle.flat_model.specs.Samples.{may_stand}
 use Rattle.flat_model.proofs.Values.{value_of-Sample, value_of-Read}
 use Rattle.flat_model.proofs.Standings.{may_stand-Sample, may_stand-Read}
-use Rattle.flat_model.proofs.tests.sampled.Goals as goal
+use Rattle.layer_tests.proofs.flat_models.sampled.Goals as goal
 
 apart : (v : Value) → Is v ≢ Absent
 apart v absent = absurd (cc absent)

@@ -1,7 +1,7 @@
 use Rattle.std.proofs.Common.{rules}
 use Rattle.std.proofs.Math.Nat.{dvd_trans}
 use Rattle.rational_time.specs.Multiple.{IsLcm}
-use Rattle.rational_time.proofs.tests.assert_grain.Goals as goal
+use Rattle.layer_tests.proofs.fractions.assert_grain.Goals as goal
 
 pub returns : goal.returns
 returns g c =

@@ -1,5 +1,5 @@
-use crate::TokenKind::{End, Ident, Integer, Keyword, Real, Symbol};
-use crate::{LexCode, LexEnd, Sym, TokenKind, Word, lex, tokens_law};
+use mo_lexer::TokenKind::{End, Ident, Integer, Keyword, Real, Symbol};
+use mo_lexer::{LexCode, LexEnd, Sym, TokenKind, Word, lex, tokens_law};
 use std::alloc::Global;
 use std::process::Abort;
 use std::test::Fail;
@@ -14,99 +14,108 @@ fn has_tokens(rt: &impl Abort, alloc: Global, text: &[u8], wanted: &[Place]) -> 
     let tokens = lex(alloc, text)?;
     assert_eq!(rt; tokens.len(), wanted.len(), "at {text:?}");
     for (token, place) in tokens.as_slice().iter().zip(wanted) {
-        assert_eq!(rt; (token.kind, token.at, token.end), *place, "at {text:?}");
+        let (kind, at, end) = *place;
+        let holds = token.kind == kind && token.at == at && token.end == end;
+        assert!(rt; holds, "at {text:?}");
     }
     Ok(())
 }
 
 fn has_fault(rt: &impl Abort, alloc: Global, text: &[u8], code: LexCode, at: u32) {
     assert!(rt; text.len() <= LIMIT);
-    match lex(alloc, text) {
-        Ok(_) => assert!(rt; false, "tokens at {text:?}"),
-        Err(end) => assert_eq!(rt; end, LexEnd::Fault { code, at }, "at {text:?}"),
-    }
+    let holds = match lex(alloc, text) {
+        Err(
+            LexEnd::Fault {
+                code: found,
+                at: place,
+            },
+        ) => found == code && place == at,
+        _ => false,
+    };
+    assert!(rt; holds, "at {text:?}");
 }
+
+const TEXTS: [(&[u8], &[Place]); 22] = [
+    (b"", &[(End, 0, 0)]),
+    (
+        b"\xEF\xBB\xBFmodel M",
+        &[
+            (Keyword(Word::KwModel), 3, 8),
+            (Ident, 9, 10),
+            (End, 10, 10),
+        ],
+    ),
+    (b" x_1\r\n", &[(Ident, 1, 4), (End, 6, 6)]),
+    (
+        b"if ifx",
+        &[(Keyword(Word::KwIf), 0, 2), (Ident, 3, 6), (End, 6, 6)],
+    ),
+    (b"1.", &[(Real, 0, 2), (End, 2, 2)]),
+    (b"1.e", &[(Real, 0, 2), (Ident, 2, 3), (End, 3, 3)]),
+    (
+        b"1e+",
+        &[
+            (Integer(1), 0, 1),
+            (Ident, 1, 2),
+            (Symbol(Sym::Plus), 2, 3),
+            (End, 3, 3),
+        ],
+    ),
+    (b"1e-05", &[(Real, 0, 5), (End, 5, 5)]),
+    (b"1.25E5", &[(Real, 0, 6), (End, 6, 6)]),
+    (
+        b"1..2",
+        &[
+            (Real, 0, 2),
+            (Symbol(Sym::Dot), 2, 3),
+            (Integer(2), 3, 4),
+            (End, 4, 4),
+        ],
+    ),
+    (
+        b".5",
+        &[(Symbol(Sym::Dot), 0, 1), (Integer(5), 1, 2), (End, 2, 2)],
+    ),
+    (
+        b"9223372036854775807",
+        &[(Integer(9223372036854775807), 0, 19), (End, 19, 19)],
+    ),
+    (b"<>", &[(Symbol(Sym::Unequal), 0, 2), (End, 2, 2)]),
+    (b":=", &[(Symbol(Sym::Assign), 0, 2), (End, 2, 2)]),
+    (
+        b"<==",
+        &[
+            (Symbol(Sym::LessEq), 0, 2),
+            (Symbol(Sym::Equals), 2, 3),
+            (End, 3, 3),
+        ],
+    ),
+    (
+        b"=<",
+        &[
+            (Symbol(Sym::Equals), 0, 1),
+            (Symbol(Sym::Less), 1, 2),
+            (End, 2, 2),
+        ],
+    ),
+    (b"a//", &[(Ident, 0, 1), (End, 3, 3)]),
+    (b"// \"\n*", &[(Symbol(Sym::Times), 5, 6), (End, 6, 6)]),
+    (b"/*/*/a/**/", &[(Ident, 5, 6), (End, 10, 10)]),
+    (b"/", &[(Symbol(Sym::Over), 0, 1), (End, 1, 1)]),
+    (b"\"\\\"\\\\\"", &[(TokenKind::Text, 0, 6), (End, 6, 6)]),
+    (
+        b"\"\xC3\"\"\"",
+        &[
+            (TokenKind::Text, 0, 3),
+            (TokenKind::Text, 3, 5),
+            (End, 5, 5),
+        ],
+    ),
+];
 
 #[test]
 fn tokens_of_texts(rt: HostRuntime) -> Result<(), Fail> {
-    let cases: [(&[u8], &[Place]); 22] = [
-        (b"", &[(End, 0, 0)]),
-        (
-            b"\xEF\xBB\xBFmodel M",
-            &[
-                (Keyword(Word::KwModel), 3, 8),
-                (Ident, 9, 10),
-                (End, 10, 10),
-            ],
-        ),
-        (b" x_1\r\n", &[(Ident, 1, 4), (End, 6, 6)]),
-        (
-            b"if ifx",
-            &[(Keyword(Word::KwIf), 0, 2), (Ident, 3, 6), (End, 6, 6)],
-        ),
-        (b"1.", &[(Real, 0, 2), (End, 2, 2)]),
-        (b"1.e", &[(Real, 0, 2), (Ident, 2, 3), (End, 3, 3)]),
-        (
-            b"1e+",
-            &[
-                (Integer(1), 0, 1),
-                (Ident, 1, 2),
-                (Symbol(Sym::Plus), 2, 3),
-                (End, 3, 3),
-            ],
-        ),
-        (b"1e-05", &[(Real, 0, 5), (End, 5, 5)]),
-        (b"1.25E5", &[(Real, 0, 6), (End, 6, 6)]),
-        (
-            b"1..2",
-            &[
-                (Real, 0, 2),
-                (Symbol(Sym::Dot), 2, 3),
-                (Integer(2), 3, 4),
-                (End, 4, 4),
-            ],
-        ),
-        (
-            b".5",
-            &[(Symbol(Sym::Dot), 0, 1), (Integer(5), 1, 2), (End, 2, 2)],
-        ),
-        (
-            b"9223372036854775807",
-            &[(Integer(9223372036854775807), 0, 19), (End, 19, 19)],
-        ),
-        (b"<>", &[(Symbol(Sym::Unequal), 0, 2), (End, 2, 2)]),
-        (b":=", &[(Symbol(Sym::Assign), 0, 2), (End, 2, 2)]),
-        (
-            b"<==",
-            &[
-                (Symbol(Sym::LessEq), 0, 2),
-                (Symbol(Sym::Equals), 2, 3),
-                (End, 3, 3),
-            ],
-        ),
-        (
-            b"=<",
-            &[
-                (Symbol(Sym::Equals), 0, 1),
-                (Symbol(Sym::Less), 1, 2),
-                (End, 2, 2),
-            ],
-        ),
-        (b"a//", &[(Ident, 0, 1), (End, 3, 3)]),
-        (b"// \"\n*", &[(Symbol(Sym::Times), 5, 6), (End, 6, 6)]),
-        (b"/*/*/a/**/", &[(Ident, 5, 6), (End, 10, 10)]),
-        (b"/", &[(Symbol(Sym::Over), 0, 1), (End, 1, 1)]),
-        (b"\"\\\"\\\\\"", &[(TokenKind::Text, 0, 6), (End, 6, 6)]),
-        (
-            b"\"\xC3\"\"\"",
-            &[
-                (TokenKind::Text, 0, 3),
-                (TokenKind::Text, 3, 5),
-                (End, 5, 5),
-            ],
-        ),
-    ];
-    for (text, wanted) in cases {
+    for &(text, wanted) in &TEXTS {
         has_tokens(&rt, rt.alloc(), text, wanted)?;
     }
     tokens_law(b"x");
@@ -131,7 +140,7 @@ fn faults_of_texts(rt: HostRuntime) {
         (b"\" @", LexCode::L2, 0),
         (b"9223372036854775808 @", LexCode::L3, 0),
     ];
-    for (text, code, at) in cases {
+    for &(text, code, at) in &cases {
         has_fault(&rt, rt.alloc(), text, code, at);
     }
 }

@@ -1,5 +1,5 @@
 use Rattle.mo_connect.specs.Chain.{AreBelow}
-use Rattle.mo_connect.proofs.tests.listed.Given as goal
+use Rattle.layer_tests.proofs.connections.listed.Given as goal
 
 abbrev pub invariant-loop-a : goal.invariant-loop-a
 invariant-loop-a g l = AreBelow l.count l.list

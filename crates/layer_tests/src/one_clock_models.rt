@@ -1,7 +1,7 @@
-use super::{FormEnd, OneClock, one_clock};
-use flat_model::{ClockExpr, Equation, Expr, NameKind};
+use flat_model::{ClockExpr, Equation, Expr, FlatName, NameKind};
 use mo_lexer::lex;
 use mo_parser::parse;
+use one_clock::{FormEnd, OneClock, one_clock};
 use std::alloc::Global;
 use sync_values::Value;
 
@@ -53,13 +53,13 @@ const NOT_BUILT: [&str; 26] = [
 
 #[test]
 fn takes_the_form(rt: HostRuntime) {
-    for text in TAKEN {
+    for text in &TAKEN {
         assert!(rt;
             matches!(told(rt.alloc(), text.as_bytes()), Some(Ok(_))),
             "{text}"
         );
     }
-    for text in NOT_BUILT {
+    for text in &NOT_BUILT {
         assert!(rt;
             matches!(
                 told(rt.alloc(), text.as_bytes()),
@@ -70,6 +70,50 @@ fn takes_the_form(rt: HostRuntime) {
     }
 }
 
+// An Integer `a` that starts at -3, and a Boolean `b`.
+fn has_two_names(names: &[FlatName]) -> bool {
+    match names {
+        [a, b] => {
+            a.text.as_bytes() == b"a".as_slice()
+                && a.kind == NameKind::Integer
+                && a.start == Value::Int(-3)
+                && b.kind == NameKind::Boolean
+                && b.start == Value::Bool(false)
+        }
+        _ => false,
+    }
+}
+
+// Whether an equation in the first clause is for this name.
+fn is_for(equation: &Equation, name: u32) -> bool {
+    matches!(equation, Equation::Valued { left: Expr::Read(found), clause: Some(0), .. } if *found == name)
+}
+
+// A relation for the second name, and 7 for the first.
+fn has_two_equations(equations: &[Equation]) -> bool {
+    match equations {
+        [first, second] => {
+            is_for(first, 1)
+                && is_for(second, 0)
+                && matches!(
+                    first,
+                    Equation::Valued {
+                        right: Expr::Relation(..),
+                        ..
+                    }
+                )
+                && matches!(
+                    second,
+                    Equation::Valued {
+                        right: Expr::Const(Value::Int(7)),
+                        ..
+                    }
+                )
+        }
+        _ => false,
+    }
+}
+
 #[test]
 fn tells_names_and_equations(rt: HostRuntime) {
     let text =
@@ -77,35 +121,8 @@ fn tells_names_and_equations(rt: HostRuntime) {
     let Some(Ok(told)) = told(rt.alloc(), text) else {
         panic!(rt; "the text has the form");
     };
-    assert_eq!(rt; (told.counter, told.resolution), (5, 2));
-    let [a, b] = told.model.names.as_slice() else {
-        panic!(rt; "two names");
-    };
-    assert_eq!(rt; a.text.as_bytes(), b"a".as_slice());
-    assert_eq!(rt; (a.kind, a.start), (NameKind::Integer, Value::Int(-3)));
-    assert_eq!(rt; (b.kind, b.start), (NameKind::Boolean, Value::Bool(false)));
-    let [first, second] = told.model.equations.as_slice() else {
-        panic!(rt; "two equations");
-    };
-    assert!(rt;
-        matches!(
-            first,
-            Equation::Valued {
-                left: Expr::Read(1),
-                right: Expr::Relation(_, _, _),
-                clause: Some(0)
-            }
-        )
-    );
-    assert!(rt;
-        matches!(
-            second,
-            Equation::Valued {
-                left: Expr::Read(0),
-                right: Expr::Const(Value::Int(7)),
-                clause: Some(0)
-            }
-        )
-    );
+    assert!(rt; told.counter == 5 && told.resolution == 2);
+    assert!(rt; has_two_names(told.model.names.as_slice()));
+    assert!(rt; has_two_equations(told.model.equations.as_slice()));
     assert!(rt; matches!(told.model.clauses.as_slice(), [ClockExpr::Rational(5, 2)]));
 }
