@@ -1,5 +1,5 @@
 use mo_lexer::{Sym, Token, TokenKind, Word, lex};
-use mo_parser::{ParseEnd, SyntaxCode, TreeEq, TreeExpr, TreeNode, one_tree, parse};
+use mo_parser::{ParseEnd, SyntaxCode, TreeEq, TreeExpr, TreeNode, fault_law, one_tree, parse};
 use std::alloc::Global;
 use std::process::Abort;
 use std::test::Fail;
@@ -57,12 +57,19 @@ fn faults_of_texts(rt: HostRuntime) -> Result<(), Fail> {
         has_fault(&rt, rt.alloc(), text, code, at)?;
     }
     one_tree();
+    fault_law();
     Ok(())
 }
 
-// `x = ` with an operand in so many pairs of brackets behind `opening`.
-fn nested(alloc: Global, opening: &[u8], inner: &[u8], pairs: usize) -> Result<Vec<u8>, Fail> {
-    let mut text = Vec::from_slice(alloc, b"model A equation x = ")?;
+// Behind `front` so many openings, what stands inside, and as many closing brackets.
+fn nested(
+    alloc: Global,
+    front: &[u8],
+    opening: &[u8],
+    inner: &[u8],
+    pairs: usize,
+) -> Result<Vec<u8>, Fail> {
+    let mut text = Vec::from_slice(alloc, front)?;
     for _ in 0..pairs {
         text.extend_from_slice(opening)?;
     }
@@ -77,16 +84,26 @@ fn nested(alloc: Global, opening: &[u8], inner: &[u8], pairs: usize) -> Result<V
 #[test]
 fn depth_of_brackets(rt: HostRuntime) -> Result<(), Fail> {
     let alloc = rt.alloc();
-    let cases: [(&[u8], &[u8], usize, Option<u32>); 4] = [
-        (b"(", b"1", 64, None),
-        (b"(", b"1", 65, Some(86)),
-        (b"f(", b"", 65, None),
-        (b"f(", b"a", 65, Some(151)),
+    let equation: &[u8] = b"model A equation x = ";
+    let note: &[u8] = b"model A annotation";
+    // A closing bracket directly behind the opening one of level 65 stands outside this pair.
+    let cases: [(&[u8], &[u8], &[u8], usize, Option<(SyntaxCode, u32)>); 11] = [
+        (equation, b"(", b"1", 64, None),
+        (equation, b"(", b"1", 65, Some((SyntaxCode::S2, 86))),
+        (equation, b"(", b"", 65, Some((SyntaxCode::S1, 86))),
+        (equation, b"f(", b"", 65, None),
+        (equation, b"f(", b"a", 65, Some((SyntaxCode::S2, 151))),
+        (equation, b"f(", b"]", 65, Some((SyntaxCode::S2, 151))),
+        (equation, b"if ", b"a", 65, Some((SyntaxCode::S2, 216))),
+        (note, b"(", b"x", 64, None),
+        (note, b"(", b"x", 65, Some((SyntaxCode::S2, 83))),
+        (note, b"(", b"", 65, None),
+        (note, b"(", b"{", 64, Some((SyntaxCode::S2, 83))),
     ];
-    for &(opening, inner, pairs, fault) in &cases {
-        let text = nested(alloc, opening, inner, pairs)?;
+    for &(front, opening, inner, pairs, fault) in &cases {
+        let text = nested(alloc, front, opening, inner, pairs)?;
         match fault {
-            Some(at) => has_fault(&rt, alloc, text.as_slice(), SyntaxCode::S2, at)?,
+            Some((code, at)) => has_fault(&rt, alloc, text.as_slice(), code, at)?,
             None => {
                 assert!(rt; text.len() <= LIMIT);
                 let tokens = lex(alloc, text.as_slice())?;

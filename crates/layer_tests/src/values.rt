@@ -77,6 +77,8 @@ fn relations(rt: HostRuntime) {
 fn lists_and_texts(rt: HostRuntime) -> Result<(), TestFail> {
     let mut list = List::new(rt.alloc());
     assert!(rt; list.is_empty());
+    let room: List<u8> = List::with_capacity(rt.alloc(), 2)?;
+    assert!(rt; room.is_empty());
     list.push(ChainOp::Plus)?;
     list.push(ChainOp::Minus)?;
     assert_eq!(rt; list.len(), 2);
