@@ -22,7 +22,7 @@ pub enum UsageFault {
 fn is_model_word(word: &str) -> bool
     ensures { IsTrue result ↔ IsModelWord word.now }
 {
-    word.as_bytes().first() != Some(&b'-')
+    !matches!(word.as_bytes(), [b'-', ..])
 }
 
 /// Reads the words `MODEL --stop T`.
