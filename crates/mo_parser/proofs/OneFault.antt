@@ -1,5 +1,5 @@
 -- Each list of tokens has a tree or a fault, and at most one.
-use Rattle.std.proofs.Common.{◌≡◌, ◌≤◌, ◌<◌, ◌⊎◌, ◌∙◌, ◌∷◌, inl, inr, ℕ, suc, Bool, true, false, List, length, refl, ap, sym, subst, arith}
+use Rattle.std.proofs.Common.{◌≡◌, ◌≤◌, ◌<◌, ◌⊎◌, ◌∷◌, inl, inr, ℕ, Bool, true, false, List, length, refl, subst, arith}
 use Rattle.mo_lexer.specs.declared.token.Token.{Token}
 use Rattle.mo_parser.specs.declared.tree.Tree.{Tree}
 use Rattle.mo_parser.specs.declared.syntax.SyntaxCode.{SyntaxCode}
