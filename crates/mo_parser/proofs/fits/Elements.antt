@@ -60,10 +60,13 @@ module _ {n : ℕ} where
   unfolding rule.elements
   fits_elements es = fits_as element_starts element_starts refl refl (fits_many begins_element element_starts tells_element refl (λ us. fits_element us) refl refl es)
 
+  fits_right_side : Fits (sy s.Equals ∷ []) after_expr 1 None (λ k. rule_of.right_side k) (λ k. read_of.right_side k) n
+  unfolding rule_of.right_side read_of.right_side
+  fits_right_side = fits_then (fits_symbol s.Equals) (λ _. fits_level (fits_expr n)) refl
+
   fits_equal : Fits simple_starts after_expr 1 None (λ k. rule_of.equal k) (λ k. read_of.equal k) n
   unfolding rule_of.equal read_of.equal
-  fits_equal = fits_as simple_starts after_expr refl refl
-      (fits_then (fits_simple (fits_expr n)) (λ l. fits_then (fits_symbol s.Equals) (λ _. fits_then (fits_level (fits_expr n)) (λ r. fits_gives _) refl) refl) refl)
+  fits_equal = fits_as simple_starts after_expr refl refl (fits_then (fits_simple (fits_expr n)) (λ l. fits_then fits_right_side (λ r. fits_gives _) refl) refl)
 
   fits_connect : Fits (kw w.KwConnect ∷ []) [] 1 None (λ k. rule_of.connect) (λ k. read_of.connect) n
   unfolding rule_of.connect read_of.connect
@@ -74,11 +77,14 @@ module _ {n : ℕ} where
   unfolding rule_of.clause_equation read_of.clause_equation
   fits_clause_equation es = fits_then fits_equal (λ e. fits_then (fits_comment (fits_balanced n)) (λ _. fits_then (fits_symbol s.Semicolon) (λ _. fits_gives _) refl) refl) refl
 
+  fits_clause_body : Fits (kw w.KwThen ∷ []) [] 1 None (λ k. rule_of.clause_body k) (λ k. read_of.clause_body k) n
+  unfolding rule_of.clause_body read_of.clause_body
+  fits_clause_body = fits_then (fits_word w.KwThen) (λ _. fits_then (fits_many begins_simple simple_starts tells_simple refl (λ us. fits_clause_equation us) refl refl [])
+      (λ es. fits_then (fits_word w.KwEnd) (λ _. fits_then (fits_word w.KwWhen) (λ _. fits_gives _) refl) refl) refl) refl
+
   fits_clause : Fits (kw w.KwWhen ∷ []) [] 1 None (λ k. rule_of.clause k) (λ k. read_of.clause k) n
   unfolding rule_of.clause read_of.clause
-  fits_clause = fits_then (fits_word w.KwWhen) (λ _. fits_then (fits_level (fits_expr n)) (λ c. fits_then (fits_word w.KwThen)
-      (λ _. fits_then (fits_many begins_simple simple_starts tells_simple refl (λ us. fits_clause_equation us) refl refl [])
-      (λ es. fits_then (fits_word w.KwEnd) (λ _. fits_then (fits_word w.KwWhen) (λ _. fits_gives _) refl) refl) refl) refl) refl) refl
+  fits_clause = fits_then (fits_word w.KwWhen) (λ _. fits_then (fits_level (fits_expr n)) (λ c. fits_then fits_clause_body (λ es. fits_gives _) refl) refl) refl
 
   fits_any_equation : Fits equation_starts after_expr 1 None (λ k. rule_of.any_equation k) (λ k. read_of.any_equation k) n
   unfolding rule_of.any_equation read_of.any_equation

@@ -256,9 +256,8 @@ impl Reader {
     ) -> Result<List<ClassDef>, Halt>
         ensures { Reads (spec.class_line text.now self.now.depth all tokens.old) result tokens.new }
     {
-        let class = self.any_class(text, tokens)?;
+        all.push(self.any_class(text, tokens)?)?;
         symbol(tokens, Sym::Semicolon)?;
-        all.push(class)?;
         Ok(all)
     }
 

@@ -59,15 +59,14 @@ fn element_of(
     ensures ok { IfOk result (λ e. e ≡ element_of declared.now token modification) }
     ensures err { IfErr result (λ e. e ≡ Halt.NoMemory) }
 {
-    let base = copied(alloc, &declared.base)?;
-    let Modification { args, binding } = modification;
-    Ok(Element {
+    let base = copied(alloc, &declared.base);
+    base.map(|base| Element {
         variability: declared.variability,
         causality: declared.causality,
         base,
         name: span_of(token),
-        args,
-        binding,
+        args: modification.args,
+        binding: modification.binding,
     })
 }
 
@@ -91,8 +90,8 @@ impl Reader {
     {
         let token = ident(tokens)?;
         let modification = modification(self.alloc, tokens, self.depth)?;
-        comment(tokens, self.depth)?;
         all.push(element_of(self.alloc, declared, token, modification)?)?;
+        comment(tokens, self.depth)?;
         Ok(all)
     }
 

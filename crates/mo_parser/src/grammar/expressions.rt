@@ -74,9 +74,9 @@ fn powered(alloc: Global, base: TreeExpr, exponent: TreeExpr) -> Result<TreeExpr
 {
     let at = begins(&base);
     let end = ends(&exponent);
-    let base = Boxed::new(alloc, base)?;
+    let base = Boxed::new(alloc, base);
     let exponent = Boxed::new(alloc, exponent)?;
-    Ok(spanning(TreeNode::Power(base, exponent), at, end))
+    Ok(spanning(TreeNode::Power(base?, exponent), at, end))
 }
 
 fn related(alloc: Global, rel: Rel, left: TreeExpr, right: TreeExpr) -> Result<TreeExpr, Halt>
@@ -85,9 +85,9 @@ fn related(alloc: Global, rel: Rel, left: TreeExpr, right: TreeExpr) -> Result<T
 {
     let at = begins(&left);
     let end = ends(&right);
-    let left = Boxed::new(alloc, left)?;
+    let left = Boxed::new(alloc, left);
     let right = Boxed::new(alloc, right)?;
-    Ok(spanning(TreeNode::Relation(rel, left, right), at, end))
+    Ok(spanning(TreeNode::Relation(rel, left?, right), at, end))
 }
 
 // The first part of a chain.
@@ -121,15 +121,6 @@ fn chained(at: u32, links: Links) -> TreeExpr
 {
     let Links { parts, ops, end } = links;
     spanning(TreeNode::Chain(parts, ops), at, end)
-}
-
-fn branched(mut all: Branches, condition: TreeExpr, value: TreeExpr) -> Result<Branches, Halt>
-    ensures ok { IfOk result (λ b. b ≡ trees.branched all condition value) }
-    ensures err { IfErr result (λ e. e ≡ Halt.NoMemory) }
-{
-    all.conditions.push(condition)?;
-    all.branches.push(value)?;
-    Ok(all)
 }
 
 fn chosen(alloc: Global, at: u32, all: Branches, other: TreeExpr) -> Result<TreeExpr, Halt>
@@ -168,17 +159,6 @@ fn operator(tokens: &mut Tokens<'_>, found: Option<ChainOp>) -> Result<ChainOp, 
     Ok(op)
 }
 
-// The relation that the next token was found to be.
-fn relation(tokens: &mut Tokens<'_>, found: Option<Rel>) -> Result<Rel, Halt>
-    ensures { Reads (one_by found tokens.old) result tokens.new }
-{
-    let Some(rel) = found else {
-        return Err(Halt::Stuck);
-    };
-    tokens.advance();
-    Ok(rel)
-}
-
 #[derive(Clone, Copy)]
 pub struct Grammar<F> {
     pub alloc: Global,
@@ -213,8 +193,8 @@ impl<F: Fn(Global, &mut Tokens<'_>, usize) -> Result<TreeExpr, Halt>> Grammar<F>
     {
         let first = symbol(tokens, Sym::RoundOpen)?;
         let expr = self.inner(tokens)?;
-        let last = symbol(tokens, Sym::RoundClose)?;
-        Ok(widened(first.at, last.end, expr))
+        let last = symbol(tokens, Sym::RoundClose);
+        last.map(|last| widened(first.at, last.end, expr))
     }
 
     #[tactic(auto, unfolding(crate::specs::reading::Expressions::further))]
@@ -255,10 +235,9 @@ impl<F: Fn(Global, &mut Tokens<'_>, usize) -> Result<TreeExpr, Halt>> Grammar<F>
         requires { Nests self.now.depth (F.pre self.now.expr) (F.post self.now.expr) }
         ensures { Reads (spec.listed (spec.expr self.now.depth) tokens.old) result tokens.new }
     {
-        let first = self.whole(tokens)?;
         // Most calls have one argument or two.
         let mut all = List::with_capacity(self.alloc, 2)?;
-        all.push(first)?;
+        all.push(self.whole(tokens)?)?;
         self.all_further(tokens, all)
     }
 
@@ -310,7 +289,7 @@ impl<F: Fn(Global, &mut Tokens<'_>, usize) -> Result<TreeExpr, Halt>> Grammar<F>
         }
     }
 
-    #[tactic(auto, unfolding(crate::specs::reading::Expressions::factor))]
+    #[tactic(auto, unfolding(crate::specs::reading::Expressions::factor, crate::specs::reading::Names::symbol))]
     fn factor(&self, tokens: &mut Tokens<'_>) -> Result<TreeExpr, Halt>
         requires { Nests self.now.depth (F.pre self.now.expr) (F.post self.now.expr) }
         ensures { Reads (spec.factor (spec.expr self.now.depth) tokens.old) result tokens.new }
@@ -319,9 +298,9 @@ impl<F: Fn(Global, &mut Tokens<'_>, usize) -> Result<TreeExpr, Halt>> Grammar<F>
         if !is_symbol(tokens.peek(), Sym::Power) {
             return Ok(base);
         }
-        symbol(tokens, Sym::Power)?;
-        let exponent = self.primary(tokens)?;
-        powered(self.alloc, base, exponent)
+        tokens.advance();
+        let exponent = self.primary(tokens);
+        exponent.and_then(|exponent| powered(self.alloc, base, exponent))
     }
 
     #[tactic(auto, unfolding(crate::specs::reading::Expressions::link))]
@@ -444,12 +423,12 @@ impl<F: Fn(Global, &mut Tokens<'_>, usize) -> Result<TreeExpr, Halt>> Grammar<F>
         ensures { Reads (spec.rel (spec.expr self.now.depth) tokens.old) result tokens.new }
     {
         let left = self.arith(tokens)?;
-        if !relation_of(tokens.peek()).is_some() {
+        let Some(rel) = relation_of(tokens.peek()) else {
             return Ok(left);
-        }
-        let rel = relation(tokens, relation_of(tokens.peek()))?;
-        let right = self.arith(tokens)?;
-        related(self.alloc, rel, left, right)
+        };
+        tokens.advance();
+        let right = self.arith(tokens);
+        right.and_then(|right| related(self.alloc, rel, left, right))
     }
 
     #[tactic(auto, unfolding(crate::specs::reading::Expressions::lit))]
@@ -560,14 +539,14 @@ impl<F: Fn(Global, &mut Tokens<'_>, usize) -> Result<TreeExpr, Halt>> Grammar<F>
     }
 
     #[tactic(auto, unfolding(crate::specs::reading::Expressions::branch))]
-    fn branch(&self, tokens: &mut Tokens<'_>, all: Branches) -> Result<Branches, Halt>
+    fn branch(&self, tokens: &mut Tokens<'_>, mut all: Branches) -> Result<Branches, Halt>
         requires { Nests self.now.depth (F.pre self.now.expr) (F.post self.now.expr) }
         ensures { Reads (spec.branch (spec.expr self.now.depth) all tokens.old) result tokens.new }
     {
-        let condition = self.whole(tokens)?;
+        all.conditions.push(self.whole(tokens)?)?;
         word(tokens, Word::KwThen)?;
-        let value = self.whole(tokens)?;
-        branched(all, condition, value)
+        all.branches.push(self.whole(tokens)?)?;
+        Ok(all)
     }
 
     #[tactic(auto, unfolding(crate::specs::reading::Expressions::other_branch))]
