@@ -180,12 +180,11 @@ impl Reader {
         let causality = some_causality(tokens)?;
         let Named { path, span: _ } = name(self.alloc, tokens)?;
         let args = self.short_args(text, tokens)?;
-        comment(tokens, self.depth)?;
-        Ok(Short {
+        comment(tokens, self.depth).and(Ok(Short {
             causality,
             base: path,
             args,
-        })
+        }))
     }
 
     #[tactic(auto, unfolding(crate::specs::reading::Classes::long_class))]

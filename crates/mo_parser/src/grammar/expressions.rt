@@ -123,6 +123,16 @@ fn chained(at: u32, links: Links) -> TreeExpr
     spanning(TreeNode::Chain(parts, ops), at, end)
 }
 
+fn branched(mut all: Branches, condition: TreeExpr, value: TreeExpr) -> Result<Branches, Halt>
+    ensures ok { IfOk result (λ b. b ≡ trees.branched all condition value) }
+    ensures err { IfErr result (λ e. e ≡ Halt.NoMemory) }
+{
+    let pushed = all.conditions.push(condition);
+    all.branches.push(value)?;
+    pushed?;
+    Ok(all)
+}
+
 fn chosen(alloc: Global, at: u32, all: Branches, other: TreeExpr) -> Result<TreeExpr, Halt>
     ensures ok { IfOk result (λ e. e ≡ trees.chosen at all other) }
     ensures err { IfErr result (λ e. e ≡ Halt.NoMemory) }
@@ -538,15 +548,23 @@ impl<F: Fn(Global, &mut Tokens<'_>, usize) -> Result<TreeExpr, Halt>> Grammar<F>
         self.or_links(tokens, first)
     }
 
+    #[tactic(auto, unfolding(crate::specs::reading::Expressions::consequence))]
+    fn consequence(&self, tokens: &mut Tokens<'_>) -> Result<TreeExpr, Halt>
+        requires { Nests self.now.depth (F.pre self.now.expr) (F.post self.now.expr) }
+        ensures { Reads (spec.consequence (spec.expr self.now.depth) tokens.old) result tokens.new }
+    {
+        word(tokens, Word::KwThen)?;
+        self.whole(tokens)
+    }
+
     #[tactic(auto, unfolding(crate::specs::reading::Expressions::branch))]
-    fn branch(&self, tokens: &mut Tokens<'_>, mut all: Branches) -> Result<Branches, Halt>
+    fn branch(&self, tokens: &mut Tokens<'_>, all: Branches) -> Result<Branches, Halt>
         requires { Nests self.now.depth (F.pre self.now.expr) (F.post self.now.expr) }
         ensures { Reads (spec.branch (spec.expr self.now.depth) all tokens.old) result tokens.new }
     {
-        all.conditions.push(self.whole(tokens)?)?;
-        word(tokens, Word::KwThen)?;
-        all.branches.push(self.whole(tokens)?)?;
-        Ok(all)
+        let condition = self.whole(tokens)?;
+        let value = self.consequence(tokens);
+        value.and_then(|value| branched(all, condition, value))
     }
 
     #[tactic(auto, unfolding(crate::specs::reading::Expressions::other_branch))]
@@ -572,6 +590,15 @@ impl<F: Fn(Global, &mut Tokens<'_>, usize) -> Result<TreeExpr, Halt>> Grammar<F>
         Ok(all)
     }
 
+    #[tactic(auto, unfolding(crate::specs::reading::Expressions::otherwise))]
+    fn otherwise(&self, tokens: &mut Tokens<'_>) -> Result<TreeExpr, Halt>
+        requires { Nests self.now.depth (F.pre self.now.expr) (F.post self.now.expr) }
+        ensures { Reads (spec.otherwise (spec.expr self.now.depth) tokens.old) result tokens.new }
+    {
+        word(tokens, Word::KwElse)?;
+        self.whole(tokens)
+    }
+
     #[tactic(auto, unfolding(crate::specs::reading::Expressions::choice))]
     fn choice(&self, tokens: &mut Tokens<'_>) -> Result<TreeExpr, Halt>
         requires { Nests self.now.depth (F.pre self.now.expr) (F.post self.now.expr) }
@@ -584,9 +611,8 @@ impl<F: Fn(Global, &mut Tokens<'_>, usize) -> Result<TreeExpr, Halt>> Grammar<F>
         };
         let all = self.branch(tokens, none)?;
         let all = self.other_branches(tokens, all)?;
-        word(tokens, Word::KwElse)?;
-        let other = self.whole(tokens)?;
-        chosen(self.alloc, if_word.at, all, other)
+        let other = self.otherwise(tokens);
+        other.and_then(|other| chosen(self.alloc, if_word.at, all, other))
     }
 
     #[tactic(auto, unfolding(crate::specs::reading::Expressions::level))]
