@@ -34,6 +34,10 @@ pub fits_some_causality : {n : ℕ} → Fits causalities causalities 0 None (λ 
 unfolding rule.some_causality read.some_causality
 fits_some_causality = fits_as causalities causalities refl refl (fits_choose (λ t. is_some (causality_of t)) causalities tells_causality fits_causality (fits_gives causality.Plain) refl refl (omega arith))
 
+fits_declared : {n : ℕ} → Fits element_starts (sy s.Dot ∷ []) 1 None (λ _. rule.declared) (λ _. read.declared) n
+unfolding rule.declared read.declared
+fits_declared = fits_as element_starts (sy s.Dot ∷ []) refl refl (fits_then fits_some_variability (λ v. fits_then fits_some_causality (λ c. fits_then fits_name (λ x. fits_gives _) refl) refl) refl)
+
 abbrev after_component : List ℕ
 after_component = sy s.Comma ∷ 3 ∷ sy s.Plus ∷ kw w.KwAnnotation ∷ after_modification
 
@@ -54,7 +58,7 @@ module _ {n : ℕ} where
 
   fits_element : (es : List Element) → Fits element_starts [] 1 None (λ k. rule.element k es) (λ k. read.element k es) n
   unfolding rule.element read.element
-  fits_element es = fits_then fits_some_variability (λ v. fits_then fits_some_causality (λ c. fits_then fits_name (λ x. fits_then (fits_components _ es) (λ all. fits_then (fits_symbol s.Semicolon) (λ _. fits_gives all) refl) refl) refl) refl) refl
+  fits_element es = fits_then fits_declared (λ d. fits_then (fits_components d es) (λ all. fits_then (fits_symbol s.Semicolon) (λ _. fits_gives all) refl) refl) refl
 
   pub fits_elements : (es : List Element) → Fits element_starts element_starts 0 None (λ k. rule.elements k es) (λ k. read.elements k es) n
   unfolding rule.elements

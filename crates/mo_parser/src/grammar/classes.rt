@@ -144,8 +144,7 @@ impl Reader {
             equations: List::new(self.alloc),
         };
         let body = self.sections(text, tokens, body)?;
-        self.ending(text, tokens, own)?;
-        Ok(body)
+        self.ending(text, tokens, own).and(Ok(body))
     }
 
     #[tactic(auto, unfolding(crate::specs::reading::Classes::plain))]
@@ -256,8 +255,7 @@ impl Reader {
         ensures { Reads (spec.class_line text.now self.now.depth all tokens.old) result tokens.new }
     {
         all.push(self.any_class(text, tokens)?)?;
-        symbol(tokens, Sym::Semicolon)?;
-        Ok(all)
+        symbol(tokens, Sym::Semicolon).and(Ok(all))
     }
 
     #[tactic(auto, unfolding(crate::specs::reading::Outcomes::turns))]

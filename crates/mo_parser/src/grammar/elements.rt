@@ -70,6 +70,20 @@ fn element_of(
     })
 }
 
+#[tactic(auto, unfolding(crate::specs::reading::Elements::declared))]
+fn declared(alloc: Global, tokens: &mut Tokens<'_>) -> Result<Declared, Halt>
+    ensures { Reads (spec.declared tokens.old) result tokens.new }
+{
+    let variability = some_variability(tokens)?;
+    let causality = some_causality(tokens)?;
+    let Named { path, span: _ } = name(alloc, tokens)?;
+    Ok(Declared {
+        variability,
+        causality,
+        base: path,
+    })
+}
+
 /// Reads what stands outside of all brackets and if-expressions.
 #[derive(Clone, Copy)]
 pub struct Reader {
@@ -143,17 +157,9 @@ impl Reader {
     fn element(&self, tokens: &mut Tokens<'_>, all: List<Element>) -> Result<List<Element>, Halt>
         ensures { Reads (spec.element self.now.depth all tokens.old) result tokens.new }
     {
-        let variability = some_variability(tokens)?;
-        let causality = some_causality(tokens)?;
-        let Named { path, span: _ } = name(self.alloc, tokens)?;
-        let declared = Declared {
-            variability,
-            causality,
-            base: path,
-        };
+        let declared = declared(self.alloc, tokens)?;
         let all = self.components(tokens, &declared, all)?;
-        symbol(tokens, Sym::Semicolon)?;
-        Ok(all)
+        symbol(tokens, Sym::Semicolon).and(Ok(all))
     }
 
     #[tactic(auto, unfolding(crate::specs::reading::Outcomes::turns))]

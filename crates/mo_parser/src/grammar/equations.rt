@@ -24,8 +24,7 @@ fn connect(alloc: Global, tokens: &mut Tokens<'_>) -> Result<TreeEq, Halt>
     let first = name(alloc, tokens)?;
     symbol(tokens, Sym::Comma)?;
     let second = name(alloc, tokens)?;
-    symbol(tokens, Sym::RoundClose)?;
-    Ok(TreeEq::Connect(first.path, second.path))
+    symbol(tokens, Sym::RoundClose).and(Ok(TreeEq::Connect(first.path, second.path)))
 }
 
 impl Reader {
@@ -56,8 +55,7 @@ impl Reader {
     {
         all.push(self.equal(tokens)?)?;
         comment(tokens, self.depth)?;
-        symbol(tokens, Sym::Semicolon)?;
-        Ok(all)
+        symbol(tokens, Sym::Semicolon).and(Ok(all))
     }
 
     #[tactic(auto, unfolding(crate::specs::reading::Outcomes::turns))]
@@ -84,8 +82,7 @@ impl Reader {
         word(tokens, Word::KwThen)?;
         let equations = self.clause_equations(tokens, List::new(self.alloc))?;
         word(tokens, Word::KwEnd)?;
-        word(tokens, Word::KwWhen)?;
-        Ok(equations)
+        word(tokens, Word::KwWhen).and(Ok(equations))
     }
 
     #[tactic(auto, unfolding(crate::specs::reading::Equations::clause))]
@@ -118,8 +115,7 @@ impl Reader {
     {
         all.push(self.any_equation(tokens)?)?;
         comment(tokens, self.depth)?;
-        symbol(tokens, Sym::Semicolon)?;
-        Ok(all)
+        symbol(tokens, Sym::Semicolon).and(Ok(all))
     }
 
     #[tactic(auto, unfolding(crate::specs::reading::Outcomes::turns))]

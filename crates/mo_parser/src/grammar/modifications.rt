@@ -62,8 +62,7 @@ impl<F: Fn(Global, &mut Tokens<'_>, usize) -> Result<List<Arg>, Halt>> Lists<F> 
             return Ok(List::new(self.alloc));
         }
         let args = self.nested(tokens)?;
-        symbol(tokens, Sym::RoundClose)?;
-        Ok(args)
+        symbol(tokens, Sym::RoundClose).and(Ok(args))
     }
 
     #[tactic(auto, unfolding(crate::specs::reading::Modifications::modification))]
