@@ -34,6 +34,10 @@ pub fits_some_causality : {n : ℕ} → Fits causalities causalities 0 None (λ 
 unfolding rule.some_causality read.some_causality
 fits_some_causality = fits_as causalities causalities refl refl (fits_choose (λ t. is_some (causality_of t)) causalities tells_causality fits_causality (fits_gives causality.Plain) refl refl (omega arith))
 
+fits_declared : {n : ℕ} → Fits element_starts (sy s.Dot ∷ []) 1 None (λ _. rule.declared) (λ _. read.declared) n
+unfolding rule.declared read.declared
+fits_declared = fits_as element_starts (sy s.Dot ∷ []) refl refl (fits_then fits_some_variability (λ v. fits_then fits_some_causality (λ c. fits_then fits_name (λ x. fits_gives _) refl) refl) refl)
+
 abbrev after_component : List ℕ
 after_component = sy s.Comma ∷ 3 ∷ sy s.Plus ∷ kw w.KwAnnotation ∷ after_modification
 
@@ -54,16 +58,19 @@ module _ {n : ℕ} where
 
   fits_element : (es : List Element) → Fits element_starts [] 1 None (λ k. rule.element k es) (λ k. read.element k es) n
   unfolding rule.element read.element
-  fits_element es = fits_then fits_some_variability (λ v. fits_then fits_some_causality (λ c. fits_then fits_name (λ x. fits_then (fits_components _ es) (λ all. fits_then (fits_symbol s.Semicolon) (λ _. fits_gives all) refl) refl) refl) refl) refl
+  fits_element es = fits_then fits_declared (λ d. fits_then (fits_components d es) (λ all. fits_then (fits_symbol s.Semicolon) (λ _. fits_gives all) refl) refl) refl
 
   pub fits_elements : (es : List Element) → Fits element_starts element_starts 0 None (λ k. rule.elements k es) (λ k. read.elements k es) n
   unfolding rule.elements
   fits_elements es = fits_as element_starts element_starts refl refl (fits_many begins_element element_starts tells_element refl (λ us. fits_element us) refl refl es)
 
+  fits_right_side : Fits (sy s.Equals ∷ []) after_expr 1 None (λ k. rule_of.right_side k) (λ k. read_of.right_side k) n
+  unfolding rule_of.right_side read_of.right_side
+  fits_right_side = fits_then (fits_symbol s.Equals) (λ _. fits_level (fits_expr n)) refl
+
   fits_equal : Fits simple_starts after_expr 1 None (λ k. rule_of.equal k) (λ k. read_of.equal k) n
   unfolding rule_of.equal read_of.equal
-  fits_equal = fits_as simple_starts after_expr refl refl
-      (fits_then (fits_simple (fits_expr n)) (λ l. fits_then (fits_symbol s.Equals) (λ _. fits_then (fits_level (fits_expr n)) (λ r. fits_gives _) refl) refl) refl)
+  fits_equal = fits_as simple_starts after_expr refl refl (fits_then (fits_simple (fits_expr n)) (λ l. fits_then fits_right_side (λ r. fits_gives _) refl) refl)
 
   fits_connect : Fits (kw w.KwConnect ∷ []) [] 1 None (λ k. rule_of.connect) (λ k. read_of.connect) n
   unfolding rule_of.connect read_of.connect
@@ -74,11 +81,14 @@ module _ {n : ℕ} where
   unfolding rule_of.clause_equation read_of.clause_equation
   fits_clause_equation es = fits_then fits_equal (λ e. fits_then (fits_comment (fits_balanced n)) (λ _. fits_then (fits_symbol s.Semicolon) (λ _. fits_gives _) refl) refl) refl
 
+  fits_clause_body : Fits (kw w.KwThen ∷ []) [] 1 None (λ k. rule_of.clause_body k) (λ k. read_of.clause_body k) n
+  unfolding rule_of.clause_body read_of.clause_body
+  fits_clause_body = fits_then (fits_word w.KwThen) (λ _. fits_then (fits_many begins_simple simple_starts tells_simple refl (λ us. fits_clause_equation us) refl refl [])
+      (λ es. fits_then (fits_word w.KwEnd) (λ _. fits_then (fits_word w.KwWhen) (λ _. fits_gives _) refl) refl) refl) refl
+
   fits_clause : Fits (kw w.KwWhen ∷ []) [] 1 None (λ k. rule_of.clause k) (λ k. read_of.clause k) n
   unfolding rule_of.clause read_of.clause
-  fits_clause = fits_then (fits_word w.KwWhen) (λ _. fits_then (fits_level (fits_expr n)) (λ c. fits_then (fits_word w.KwThen)
-      (λ _. fits_then (fits_many begins_simple simple_starts tells_simple refl (λ us. fits_clause_equation us) refl refl [])
-      (λ es. fits_then (fits_word w.KwEnd) (λ _. fits_then (fits_word w.KwWhen) (λ _. fits_gives _) refl) refl) refl) refl) refl) refl
+  fits_clause = fits_then (fits_word w.KwWhen) (λ _. fits_then (fits_level (fits_expr n)) (λ c. fits_then fits_clause_body (λ es. fits_gives _) refl) refl) refl
 
   fits_any_equation : Fits equation_starts after_expr 1 None (λ k. rule_of.any_equation k) (λ k. read_of.any_equation k) n
   unfolding rule_of.any_equation read_of.any_equation

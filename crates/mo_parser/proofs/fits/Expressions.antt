@@ -162,19 +162,27 @@ module _ {n : ℕ} {R : ℕ → Rule TreeExpr} {p : ℕ → Parser TreeExpr} (wh
   unfolding rule.simple read.simple
   fits_simple = fits_as simples after_expr refl refl (fits_then fits_conj (λ e. fits_or_links e) refl)
 
+  fits_consequence : Fits (kw w.KwThen ∷ []) after_expr 1 None (λ k. rule.consequence (R k)) (λ k. read.consequence (p k)) n
+  unfolding rule.consequence read.consequence
+  fits_consequence = fits_then (fits_word w.KwThen) (λ _. whole) refl
+
   fits_branch : (b : Branches) → Fits exprs after_expr 1 (Some []) (λ k. rule.branch (R k) b) (λ k. read.branch (p k) b) n
   unfolding rule.branch read.branch
-  fits_branch b = fits_then whole (λ c. fits_then (fits_word w.KwThen) (λ _. fits_then whole (λ e. fits_gives _) refl) refl) refl
+  fits_branch b = fits_then whole (λ c. fits_then fits_consequence (λ e. fits_gives _) refl) refl
 
   fits_other_branch : (b : Branches) → Fits (kw w.KwElseif ∷ []) after_expr 1 None (λ k. rule.other_branch (R k) b) (λ k. read.other_branch (p k) b) n
   unfolding rule.other_branch read.other_branch
   fits_other_branch b = fits_then (fits_word w.KwElseif) (λ _. fits_branch b) refl
 
+  fits_otherwise : Fits (kw w.KwElse ∷ []) after_expr 1 None (λ k. rule.otherwise (R k)) (λ k. read.otherwise (p k)) n
+  unfolding rule.otherwise read.otherwise
+  fits_otherwise = fits_then (fits_word w.KwElse) (λ _. whole) refl
+
   fits_choice : Fits (kw w.KwIf ∷ []) after_expr 1 None (λ k. rule.choice (R k)) (λ k. read.choice (p k)) n
   unfolding rule.choice read.choice
   fits_choice = fits_then (fits_word w.KwIf) (λ x. fits_then (fits_branch no_branches)
       (λ b. fits_then (fits_many (is_word w.KwElseif) (kw w.KwElseif ∷ []) (tells_word w.KwElseif) refl (λ b. fits_other_branch b) refl refl b)
-      (λ all. fits_then (fits_word w.KwElse) (λ _. fits_then whole (λ e. fits_gives _) refl) refl) refl) refl) refl
+      (λ all. fits_then fits_otherwise (λ e. fits_gives _) refl) refl) refl) refl
 
   pub fits_level : Fits exprs after_expr 1 None (λ k. rule.level (R k)) (λ k. read.level (p k)) n
   unfolding rule.level read.level

@@ -27,6 +27,14 @@ some_variability = either (one variability_of) (gives variability.Plain)
 unfoldable pub some_causality : Rule Causality
 some_causality = either (one causality_of) (gives causality.Plain)
 
+-- [ "parameter"|"constant"|"discrete" ] [ "input"|"output" ] name
+unfoldable pub declared : Rule Declared
+declared = do
+  v ← some_variability
+  c ← some_causality
+  base ← name
+  gives (record { variability = v; causality = c; base = base.path })
+
 -- inside fewer levels of brackets and if-expressions than one more than the number
 module _ (n : ℕ) where
   -- Ident [ modif ] comment
@@ -48,10 +56,8 @@ module _ (n : ℕ) where
   -- [ "parameter"|"constant"|"discrete" ] [ "input"|"output" ] name component { "," component } ";"
   unfoldable pub element : List Element → Rule (List Element)
   element es = do
-    v ← some_variability
-    c ← some_causality
-    base ← name
-    all ← components (record { variability = v; causality = c; base = base.path }) es
+    d ← declared
+    all ← components d es
     symbol s.Semicolon
     gives all
 

@@ -3,6 +3,7 @@ use Rattle.std.specs.Prelude.{ℕ, List, [], ◌∷◌, ◌++◌}
 use Rattle.mo_lexer.specs.declared.token.Sym.TheVariants as s
 use Rattle.mo_lexer.specs.declared.token.Word.TheVariants as w
 use Rattle.mo_parser.specs.declared.tree.TreeEq.{TreeEq}
+use Rattle.mo_parser.specs.declared.tree.TreeExpr.{TreeExpr}
 use Rattle.mo_parser.specs.declared.tree.TreeEq.TheVariants as q
 use Rattle.mo_parser.specs.grammar.Rules.{Rule, ◌>>=◌, ◌>>◌, gives, either, many}
 use Rattle.mo_parser.specs.grammar.Names.{symbol, word, name}
@@ -22,12 +23,15 @@ connect = do
 
 -- inside fewer levels of brackets and if-expressions than one more than the number
 module _ (n : ℕ) where
+  -- "=" expr
+  unfoldable pub right_side : Rule TreeExpr
+  right_side = symbol s.Equals >> level (Expr n)
+
   -- simple "=" expr
   unfoldable pub equal : Rule TreeEq
   equal = do
     left ← simple (Expr n)
-    symbol s.Equals
-    right ← level (Expr n)
+    right ← right_side
     gives (q.Equal left right)
 
   -- simple "=" expr comment ";"
@@ -38,15 +42,21 @@ module _ (n : ℕ) where
     symbol s.Semicolon
     gives (es ++ e ∷ [])
 
+  -- "then" { simple "=" expr comment ";" } "end" "when"
+  unfoldable pub clause_body : Rule (List TreeEq)
+  clause_body = do
+    word w.KwThen
+    es ← many clause_equation []
+    word w.KwEnd
+    word w.KwWhen
+    gives es
+
   -- "when" expr "then" { simple "=" expr comment ";" } "end" "when"
   unfoldable pub clause : Rule TreeEq
   clause = do
     word w.KwWhen
     clock ← level (Expr n)
-    word w.KwThen
-    es ← many clause_equation []
-    word w.KwEnd
-    word w.KwWhen
+    es ← clause_body
     gives (q.When clock es)
 
   unfoldable pub any_equation : Rule TreeEq

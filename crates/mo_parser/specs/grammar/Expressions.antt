@@ -127,16 +127,23 @@ module _ (whole : Rule TreeExpr) where
   unfoldable pub simple : Rule TreeExpr
   simple = conj >>= links or_of conj
 
+  -- "then" expr
+  unfoldable pub consequence : Rule TreeExpr
+  consequence = word w.KwThen >> whole
+
   -- expr "then" expr, behind "if" or "elseif"
   unfoldable pub branch : Branches → Rule Branches
   branch b = do
     c ← whole
-    word w.KwThen
-    e ← whole
+    e ← consequence
     gives (branched b c e)
 
   unfoldable pub other_branch : Branches → Rule Branches
   other_branch b = word w.KwElseif >> branch b
+
+  -- "else" expr
+  unfoldable pub otherwise : Rule TreeExpr
+  otherwise = word w.KwElse >> whole
 
   -- "if" expr "then" expr { "elseif" expr "then" expr } "else" expr
   unfoldable pub choice : Rule TreeExpr
@@ -144,8 +151,7 @@ module _ (whole : Rule TreeExpr) where
     if_word ← word w.KwIf
     b ← branch no_branches
     all ← many other_branch b
-    word w.KwElse
-    e ← whole
+    e ← otherwise
     gives (chosen if_word.at all e)
 
   unfoldable pub level : Rule TreeExpr

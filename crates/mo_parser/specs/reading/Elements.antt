@@ -21,6 +21,13 @@ some_variability = choose (λ t. is_some (variability_of t)) (one variability_of
 unfoldable pub some_causality : Parser Causality
 some_causality = choose (λ t. is_some (causality_of t)) (one causality_of) (gives causality.Plain)
 
+unfoldable pub declared : Parser Declared
+declared = do
+  v ← some_variability
+  c ← some_causality
+  base ← name
+  gives (record { variability = v; causality = c; base = base.path })
+
 module _ (n : ℕ) where
   unfoldable pub component : Declared → List Element → Parser (List Element)
   component d es = do
@@ -37,10 +44,8 @@ module _ (n : ℕ) where
 
   unfoldable pub element : List Element → Parser (List Element)
   element es = do
-    v ← some_variability
-    c ← some_causality
-    base ← name
-    all ← components (record { variability = v; causality = c; base = base.path }) es
+    d ← declared
+    all ← components d es
     symbol s.Semicolon
     gives all
 

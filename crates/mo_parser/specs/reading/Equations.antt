@@ -3,6 +3,7 @@ use Rattle.std.specs.Prelude.{ℕ, List, [], ◌∷◌, ◌++◌}
 use Rattle.mo_lexer.specs.declared.token.Sym.TheVariants as s
 use Rattle.mo_lexer.specs.declared.token.Word.TheVariants as w
 use Rattle.mo_parser.specs.declared.tree.TreeEq.{TreeEq}
+use Rattle.mo_parser.specs.declared.tree.TreeExpr.{TreeExpr}
 use Rattle.mo_parser.specs.declared.tree.TreeEq.TheVariants as q
 use Rattle.mo_parser.specs.reading.Outcomes.{Parser, ◌>>=◌, ◌>>◌, gives, choose, many}
 use Rattle.mo_parser.specs.grammar.Kinds.{begins_equation, begins_simple, is_word}
@@ -21,11 +22,13 @@ connect = do
   gives (q.Connect a.path b.path)
 
 module _ (n : ℕ) where
+  unfoldable pub right_side : Parser TreeExpr
+  right_side = symbol s.Equals >> level (expr n)
+
   unfoldable pub equal : Parser TreeEq
   equal = do
     left ← simple (expr n)
-    symbol s.Equals
-    right ← level (expr n)
+    right ← right_side
     gives (q.Equal left right)
 
   unfoldable pub clause_equation : List TreeEq → Parser (List TreeEq)
@@ -35,14 +38,19 @@ module _ (n : ℕ) where
     symbol s.Semicolon
     gives (es ++ e ∷ [])
 
-  unfoldable pub clause : Parser TreeEq
-  clause = do
-    word w.KwWhen
-    clock ← level (expr n)
+  unfoldable pub clause_body : Parser (List TreeEq)
+  clause_body = do
     word w.KwThen
     es ← many begins_simple clause_equation []
     word w.KwEnd
     word w.KwWhen
+    gives es
+
+  unfoldable pub clause : Parser TreeEq
+  clause = do
+    word w.KwWhen
+    clock ← level (expr n)
+    es ← clause_body
     gives (q.When clock es)
 
   unfoldable pub any_equation : Parser TreeEq

@@ -117,23 +117,27 @@ module _ (whole : Parser TreeExpr) where
   unfoldable pub simple : Parser TreeExpr
   simple = conj >>= links or_of conj
 
+  unfoldable pub consequence : Parser TreeExpr
+  consequence = word w.KwThen >> whole
+
   unfoldable pub branch : Branches → Parser Branches
   branch b = do
     c ← whole
-    word w.KwThen
-    e ← whole
+    e ← consequence
     gives (branched b c e)
 
   unfoldable pub other_branch : Branches → Parser Branches
   other_branch b = word w.KwElseif >> branch b
+
+  unfoldable pub otherwise : Parser TreeExpr
+  otherwise = word w.KwElse >> whole
 
   unfoldable pub choice : Parser TreeExpr
   choice = do
     if_word ← word w.KwIf
     b ← branch no_branches
     all ← many (is_word w.KwElseif) other_branch b
-    word w.KwElse
-    e ← whole
+    e ← otherwise
     gives (chosen if_word.at all e)
 
   unfoldable pub level : Parser TreeExpr

@@ -144,8 +144,7 @@ impl Reader {
             equations: List::new(self.alloc),
         };
         let body = self.sections(text, tokens, body)?;
-        self.ending(text, tokens, own)?;
-        Ok(body)
+        self.ending(text, tokens, own).and(Ok(body))
     }
 
     #[tactic(auto, unfolding(crate::specs::reading::Classes::plain))]
@@ -180,12 +179,11 @@ impl Reader {
         let causality = some_causality(tokens)?;
         let Named { path, span: _ } = name(self.alloc, tokens)?;
         let args = self.short_args(text, tokens)?;
-        comment(tokens, self.depth)?;
-        Ok(Short {
+        comment(tokens, self.depth).and(Ok(Short {
             causality,
             base: path,
             args,
-        })
+        }))
     }
 
     #[tactic(auto, unfolding(crate::specs::reading::Classes::long_class))]
@@ -256,10 +254,8 @@ impl Reader {
     ) -> Result<List<ClassDef>, Halt>
         ensures { Reads (spec.class_line text.now self.now.depth all tokens.old) result tokens.new }
     {
-        let class = self.any_class(text, tokens)?;
-        symbol(tokens, Sym::Semicolon)?;
-        all.push(class)?;
-        Ok(all)
+        all.push(self.any_class(text, tokens)?)?;
+        symbol(tokens, Sym::Semicolon).and(Ok(all))
     }
 
     #[tactic(auto, unfolding(crate::specs::reading::Outcomes::turns))]

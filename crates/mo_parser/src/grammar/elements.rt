@@ -59,15 +59,28 @@ fn element_of(
     ensures ok { IfOk result (λ e. e ≡ element_of declared.now token modification) }
     ensures err { IfErr result (λ e. e ≡ Halt.NoMemory) }
 {
-    let base = copied(alloc, &declared.base)?;
-    let Modification { args, binding } = modification;
-    Ok(Element {
+    let base = copied(alloc, &declared.base);
+    base.map(|base| Element {
         variability: declared.variability,
         causality: declared.causality,
         base,
         name: span_of(token),
-        args,
-        binding,
+        args: modification.args,
+        binding: modification.binding,
+    })
+}
+
+#[tactic(auto, unfolding(crate::specs::reading::Elements::declared))]
+fn declared(alloc: Global, tokens: &mut Tokens<'_>) -> Result<Declared, Halt>
+    ensures { Reads (spec.declared tokens.old) result tokens.new }
+{
+    let variability = some_variability(tokens)?;
+    let causality = some_causality(tokens)?;
+    let Named { path, span: _ } = name(alloc, tokens)?;
+    Ok(Declared {
+        variability,
+        causality,
+        base: path,
     })
 }
 
@@ -91,8 +104,8 @@ impl Reader {
     {
         let token = ident(tokens)?;
         let modification = modification(self.alloc, tokens, self.depth)?;
-        comment(tokens, self.depth)?;
         all.push(element_of(self.alloc, declared, token, modification)?)?;
+        comment(tokens, self.depth)?;
         Ok(all)
     }
 
@@ -144,17 +157,9 @@ impl Reader {
     fn element(&self, tokens: &mut Tokens<'_>, all: List<Element>) -> Result<List<Element>, Halt>
         ensures { Reads (spec.element self.now.depth all tokens.old) result tokens.new }
     {
-        let variability = some_variability(tokens)?;
-        let causality = some_causality(tokens)?;
-        let Named { path, span: _ } = name(self.alloc, tokens)?;
-        let declared = Declared {
-            variability,
-            causality,
-            base: path,
-        };
+        let declared = declared(self.alloc, tokens)?;
         let all = self.components(tokens, &declared, all)?;
-        symbol(tokens, Sym::Semicolon)?;
-        Ok(all)
+        symbol(tokens, Sym::Semicolon).and(Ok(all))
     }
 
     #[tactic(auto, unfolding(crate::specs::reading::Outcomes::turns))]

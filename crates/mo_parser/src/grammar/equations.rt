@@ -10,7 +10,7 @@ use super::expressions::{simple_expr, whole_expr};
 use super::kinds::{begins_equation, begins_simple, is_word};
 use super::names::{name, symbol, word};
 use super::tokens::{Halt, Tokens};
-use crate::tree::TreeEq;
+use crate::tree::{TreeEq, TreeExpr};
 use mo_lexer::{Sym, Word};
 use std::alloc::Global;
 use sync_values::List;
@@ -24,19 +24,25 @@ fn connect(alloc: Global, tokens: &mut Tokens<'_>) -> Result<TreeEq, Halt>
     let first = name(alloc, tokens)?;
     symbol(tokens, Sym::Comma)?;
     let second = name(alloc, tokens)?;
-    symbol(tokens, Sym::RoundClose)?;
-    Ok(TreeEq::Connect(first.path, second.path))
+    symbol(tokens, Sym::RoundClose).and(Ok(TreeEq::Connect(first.path, second.path)))
 }
 
 impl Reader {
+    #[tactic(auto, unfolding(crate::specs::reading::Equations::right_side))]
+    fn right_side(&self, tokens: &mut Tokens<'_>) -> Result<TreeExpr, Halt>
+        ensures { Reads (spec.right_side self.now.depth tokens.old) result tokens.new }
+    {
+        symbol(tokens, Sym::Equals)?;
+        whole_expr(self.alloc, tokens, self.depth)
+    }
+
     #[tactic(auto, unfolding(crate::specs::reading::Equations::equal))]
     fn equal(&self, tokens: &mut Tokens<'_>) -> Result<TreeEq, Halt>
         ensures { Reads (spec.equal self.now.depth tokens.old) result tokens.new }
     {
         let left = simple_expr(self.alloc, tokens, self.depth)?;
-        symbol(tokens, Sym::Equals)?;
-        let right = whole_expr(self.alloc, tokens, self.depth)?;
-        Ok(TreeEq::Equal(left, right))
+        let right = self.right_side(tokens);
+        right.map(|right| TreeEq::Equal(left, right))
     }
 
     #[tactic(auto, unfolding(crate::specs::reading::Equations::clause_equation))]
@@ -47,11 +53,9 @@ impl Reader {
     ) -> Result<List<TreeEq>, Halt>
         ensures { Reads (spec.clause_equation self.now.depth all tokens.old) result tokens.new }
     {
-        let equation = self.equal(tokens)?;
+        all.push(self.equal(tokens)?)?;
         comment(tokens, self.depth)?;
-        symbol(tokens, Sym::Semicolon)?;
-        all.push(equation)?;
-        Ok(all)
+        symbol(tokens, Sym::Semicolon).and(Ok(all))
     }
 
     #[tactic(auto, unfolding(crate::specs::reading::Outcomes::turns))]
@@ -71,17 +75,24 @@ impl Reader {
         Ok(all)
     }
 
+    #[tactic(auto, unfolding(crate::specs::reading::Equations::clause_body))]
+    fn clause_body(&self, tokens: &mut Tokens<'_>) -> Result<List<TreeEq>, Halt>
+        ensures { Reads (spec.clause_body self.now.depth tokens.old) result tokens.new }
+    {
+        word(tokens, Word::KwThen)?;
+        let equations = self.clause_equations(tokens, List::new(self.alloc))?;
+        word(tokens, Word::KwEnd)?;
+        word(tokens, Word::KwWhen).and(Ok(equations))
+    }
+
     #[tactic(auto, unfolding(crate::specs::reading::Equations::clause))]
     fn clause(&self, tokens: &mut Tokens<'_>) -> Result<TreeEq, Halt>
         ensures { Reads (spec.clause self.now.depth tokens.old) result tokens.new }
     {
         word(tokens, Word::KwWhen)?;
         let clock = whole_expr(self.alloc, tokens, self.depth)?;
-        word(tokens, Word::KwThen)?;
-        let equations = self.clause_equations(tokens, List::new(self.alloc))?;
-        word(tokens, Word::KwEnd)?;
-        word(tokens, Word::KwWhen)?;
-        Ok(TreeEq::When(clock, equations))
+        let equations = self.clause_body(tokens);
+        equations.map(|equations| TreeEq::When(clock, equations))
     }
 
     #[tactic(auto, unfolding(crate::specs::reading::Equations::any_equation))]
@@ -102,11 +113,9 @@ impl Reader {
     fn equation(&self, tokens: &mut Tokens<'_>, mut all: List<TreeEq>) -> Result<List<TreeEq>, Halt>
         ensures { Reads (spec.equation self.now.depth all tokens.old) result tokens.new }
     {
-        let equation = self.any_equation(tokens)?;
+        all.push(self.any_equation(tokens)?)?;
         comment(tokens, self.depth)?;
-        symbol(tokens, Sym::Semicolon)?;
-        all.push(equation)?;
-        Ok(all)
+        symbol(tokens, Sym::Semicolon).and(Ok(all))
     }
 
     #[tactic(auto, unfolding(crate::specs::reading::Outcomes::turns))]

@@ -74,9 +74,9 @@ fn powered(alloc: Global, base: TreeExpr, exponent: TreeExpr) -> Result<TreeExpr
 {
     let at = begins(&base);
     let end = ends(&exponent);
-    let base = Boxed::new(alloc, base)?;
+    let base = Boxed::new(alloc, base);
     let exponent = Boxed::new(alloc, exponent)?;
-    Ok(spanning(TreeNode::Power(base, exponent), at, end))
+    Ok(spanning(TreeNode::Power(base?, exponent), at, end))
 }
 
 fn related(alloc: Global, rel: Rel, left: TreeExpr, right: TreeExpr) -> Result<TreeExpr, Halt>
@@ -85,9 +85,9 @@ fn related(alloc: Global, rel: Rel, left: TreeExpr, right: TreeExpr) -> Result<T
 {
     let at = begins(&left);
     let end = ends(&right);
-    let left = Boxed::new(alloc, left)?;
+    let left = Boxed::new(alloc, left);
     let right = Boxed::new(alloc, right)?;
-    Ok(spanning(TreeNode::Relation(rel, left, right), at, end))
+    Ok(spanning(TreeNode::Relation(rel, left?, right), at, end))
 }
 
 // The first part of a chain.
@@ -127,8 +127,9 @@ fn branched(mut all: Branches, condition: TreeExpr, value: TreeExpr) -> Result<B
     ensures ok { IfOk result (λ b. b ≡ trees.branched all condition value) }
     ensures err { IfErr result (λ e. e ≡ Halt.NoMemory) }
 {
-    all.conditions.push(condition)?;
+    let pushed = all.conditions.push(condition);
     all.branches.push(value)?;
+    pushed?;
     Ok(all)
 }
 
@@ -168,17 +169,6 @@ fn operator(tokens: &mut Tokens<'_>, found: Option<ChainOp>) -> Result<ChainOp, 
     Ok(op)
 }
 
-// The relation that the next token was found to be.
-fn relation(tokens: &mut Tokens<'_>, found: Option<Rel>) -> Result<Rel, Halt>
-    ensures { Reads (one_by found tokens.old) result tokens.new }
-{
-    let Some(rel) = found else {
-        return Err(Halt::Stuck);
-    };
-    tokens.advance();
-    Ok(rel)
-}
-
 #[derive(Clone, Copy)]
 pub struct Grammar<F> {
     pub alloc: Global,
@@ -213,8 +203,8 @@ impl<F: Fn(Global, &mut Tokens<'_>, usize) -> Result<TreeExpr, Halt>> Grammar<F>
     {
         let first = symbol(tokens, Sym::RoundOpen)?;
         let expr = self.inner(tokens)?;
-        let last = symbol(tokens, Sym::RoundClose)?;
-        Ok(widened(first.at, last.end, expr))
+        let last = symbol(tokens, Sym::RoundClose);
+        last.map(|last| widened(first.at, last.end, expr))
     }
 
     #[tactic(auto, unfolding(crate::specs::reading::Expressions::further))]
@@ -255,10 +245,9 @@ impl<F: Fn(Global, &mut Tokens<'_>, usize) -> Result<TreeExpr, Halt>> Grammar<F>
         requires { Nests self.now.depth (F.pre self.now.expr) (F.post self.now.expr) }
         ensures { Reads (spec.listed (spec.expr self.now.depth) tokens.old) result tokens.new }
     {
-        let first = self.whole(tokens)?;
         // Most calls have one argument or two.
         let mut all = List::with_capacity(self.alloc, 2)?;
-        all.push(first)?;
+        all.push(self.whole(tokens)?)?;
         self.all_further(tokens, all)
     }
 
@@ -310,7 +299,7 @@ impl<F: Fn(Global, &mut Tokens<'_>, usize) -> Result<TreeExpr, Halt>> Grammar<F>
         }
     }
 
-    #[tactic(auto, unfolding(crate::specs::reading::Expressions::factor))]
+    #[tactic(auto, unfolding(crate::specs::reading::Expressions::factor, crate::specs::reading::Names::symbol))]
     fn factor(&self, tokens: &mut Tokens<'_>) -> Result<TreeExpr, Halt>
         requires { Nests self.now.depth (F.pre self.now.expr) (F.post self.now.expr) }
         ensures { Reads (spec.factor (spec.expr self.now.depth) tokens.old) result tokens.new }
@@ -319,9 +308,9 @@ impl<F: Fn(Global, &mut Tokens<'_>, usize) -> Result<TreeExpr, Halt>> Grammar<F>
         if !is_symbol(tokens.peek(), Sym::Power) {
             return Ok(base);
         }
-        symbol(tokens, Sym::Power)?;
-        let exponent = self.primary(tokens)?;
-        powered(self.alloc, base, exponent)
+        tokens.advance();
+        let exponent = self.primary(tokens);
+        exponent.and_then(|exponent| powered(self.alloc, base, exponent))
     }
 
     #[tactic(auto, unfolding(crate::specs::reading::Expressions::link))]
@@ -444,12 +433,12 @@ impl<F: Fn(Global, &mut Tokens<'_>, usize) -> Result<TreeExpr, Halt>> Grammar<F>
         ensures { Reads (spec.rel (spec.expr self.now.depth) tokens.old) result tokens.new }
     {
         let left = self.arith(tokens)?;
-        if !relation_of(tokens.peek()).is_some() {
+        let Some(rel) = relation_of(tokens.peek()) else {
             return Ok(left);
-        }
-        let rel = relation(tokens, relation_of(tokens.peek()))?;
-        let right = self.arith(tokens)?;
-        related(self.alloc, rel, left, right)
+        };
+        tokens.advance();
+        let right = self.arith(tokens);
+        right.and_then(|right| related(self.alloc, rel, left, right))
     }
 
     #[tactic(auto, unfolding(crate::specs::reading::Expressions::lit))]
@@ -559,15 +548,23 @@ impl<F: Fn(Global, &mut Tokens<'_>, usize) -> Result<TreeExpr, Halt>> Grammar<F>
         self.or_links(tokens, first)
     }
 
+    #[tactic(auto, unfolding(crate::specs::reading::Expressions::consequence))]
+    fn consequence(&self, tokens: &mut Tokens<'_>) -> Result<TreeExpr, Halt>
+        requires { Nests self.now.depth (F.pre self.now.expr) (F.post self.now.expr) }
+        ensures { Reads (spec.consequence (spec.expr self.now.depth) tokens.old) result tokens.new }
+    {
+        word(tokens, Word::KwThen)?;
+        self.whole(tokens)
+    }
+
     #[tactic(auto, unfolding(crate::specs::reading::Expressions::branch))]
     fn branch(&self, tokens: &mut Tokens<'_>, all: Branches) -> Result<Branches, Halt>
         requires { Nests self.now.depth (F.pre self.now.expr) (F.post self.now.expr) }
         ensures { Reads (spec.branch (spec.expr self.now.depth) all tokens.old) result tokens.new }
     {
         let condition = self.whole(tokens)?;
-        word(tokens, Word::KwThen)?;
-        let value = self.whole(tokens)?;
-        branched(all, condition, value)
+        let value = self.consequence(tokens);
+        value.and_then(|value| branched(all, condition, value))
     }
 
     #[tactic(auto, unfolding(crate::specs::reading::Expressions::other_branch))]
@@ -593,6 +590,15 @@ impl<F: Fn(Global, &mut Tokens<'_>, usize) -> Result<TreeExpr, Halt>> Grammar<F>
         Ok(all)
     }
 
+    #[tactic(auto, unfolding(crate::specs::reading::Expressions::otherwise))]
+    fn otherwise(&self, tokens: &mut Tokens<'_>) -> Result<TreeExpr, Halt>
+        requires { Nests self.now.depth (F.pre self.now.expr) (F.post self.now.expr) }
+        ensures { Reads (spec.otherwise (spec.expr self.now.depth) tokens.old) result tokens.new }
+    {
+        word(tokens, Word::KwElse)?;
+        self.whole(tokens)
+    }
+
     #[tactic(auto, unfolding(crate::specs::reading::Expressions::choice))]
     fn choice(&self, tokens: &mut Tokens<'_>) -> Result<TreeExpr, Halt>
         requires { Nests self.now.depth (F.pre self.now.expr) (F.post self.now.expr) }
@@ -605,9 +611,8 @@ impl<F: Fn(Global, &mut Tokens<'_>, usize) -> Result<TreeExpr, Halt>> Grammar<F>
         };
         let all = self.branch(tokens, none)?;
         let all = self.other_branches(tokens, all)?;
-        word(tokens, Word::KwElse)?;
-        let other = self.whole(tokens)?;
-        chosen(self.alloc, if_word.at, all, other)
+        let other = self.otherwise(tokens);
+        other.and_then(|other| chosen(self.alloc, if_word.at, all, other))
     }
 
     #[tactic(auto, unfolding(crate::specs::reading::Expressions::level))]

@@ -62,8 +62,7 @@ impl<F: Fn(Global, &mut Tokens<'_>, usize) -> Result<List<Arg>, Halt>> Lists<F> 
             return Ok(List::new(self.alloc));
         }
         let args = self.nested(tokens)?;
-        symbol(tokens, Sym::RoundClose)?;
-        Ok(args)
+        symbol(tokens, Sym::RoundClose).and(Ok(args))
     }
 
     #[tactic(auto, unfolding(crate::specs::reading::Modifications::modification))]
@@ -91,12 +90,11 @@ impl<F: Fn(Global, &mut Tokens<'_>, usize) -> Result<List<Arg>, Halt>> Lists<F> 
     {
         let Named { path, span: _ } = name(self.alloc, tokens)?;
         let Modification { args, binding } = self.modification(tokens)?;
-        some_texts(tokens)?;
-        Ok(Arg {
+        some_texts(tokens).and(Ok(Arg {
             name: path,
             args,
             binding,
-        })
+        }))
     }
 
     #[tactic(auto, unfolding(crate::specs::reading::Modifications::further_argument))]
@@ -133,10 +131,9 @@ impl<F: Fn(Global, &mut Tokens<'_>, usize) -> Result<List<Arg>, Halt>> Lists<F> 
         requires { NestsArgs self.now.depth (F.pre self.now.args) (F.post self.now.args) }
         ensures { Reads (spec.arguments (expr self.now.depth) (spec.args self.now.depth) tokens.old) result tokens.new }
     {
-        let first = self.argument(tokens)?;
         // Most modifications have one argument.
         let mut all = List::with_capacity(self.alloc, 1)?;
-        all.push(first)?;
+        all.push(self.argument(tokens)?)?;
         self.more_arguments(tokens, all)
     }
 }
