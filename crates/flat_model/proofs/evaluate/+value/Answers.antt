@@ -4,13 +4,15 @@ use Rattle.std.proofs.lemmas.List.{drop_all}
 use Rattle.std.proofs.Math.Seq.{drop-cons}
 use Rattle.sync_values.specs.declared.value.Value.TheVariants as value
 use Rattle.flat_model.specs.declared.evaluate.Vantage.TheVariants.{Left}
-use Rattle.flat_model.specs.Operators.{Is, Fails, applied, chained, chain, negated, inverted, relation, chosen}
-use Rattle.flat_model.specs.Meaning.{value_of, answers}
+use Rattle.flat_model.specs.Operators.{Is, Fails, applied, chained, chain, negated, inverted, relation, chosen, read, settled}
+use Rattle.flat_model.specs.Functions.{called}
+use Rattle.sync_values.specs.Arithmetic.{fitted}
+use Rattle.flat_model.specs.Meaning.{value_of, answers, whole_of}
 use Rattle.flat_model.specs.Evaluation.{answer_of, seen_from}
 use Rattle.flat_model.specs.Samples.{may_stand, all_may_stand, outside_samples}
-use Rattle.flat_model.proofs.Values.{value_of-Chain, value_of-Relation, value_of-Neg, value_of-Not, value_of-Apply, value_of-Sample}
-use Rattle.flat_model.proofs.Standings.{may_stand-Chain, may_stand-Relation, may_stand-Neg, may_stand-Not, may_stand-Apply, may_stand-Sample}
-use Rattle.flat_model.proofs.Evaluations.{chain_first, chain_first-Fails, next_present, next-Fails, applied_present, next_applied, chained_at, chained_done, standing_at, sampled, first_holds, second_holds, branch_at, chosen_true, chosen_false, If_standing, dropped_at, chained-Fails}
+use Rattle.flat_model.proofs.Values.{value_of-Const, value_of-Read, value_of-Chain, value_of-Relation, value_of-Neg, value_of-Not, value_of-If, value_of-Apply, value_of-Previous, value_of-FirstTick, value_of-IntervalTimes, value_of-Hold, value_of-Convert, value_of-Sample}
+use Rattle.flat_model.proofs.Standings.{may_stand-Chain, may_stand-Relation, may_stand-Neg, may_stand-Not, may_stand-Apply, may_stand-Previous, may_stand-FirstTick, may_stand-IntervalTimes, may_stand-Sample}
+use Rattle.flat_model.proofs.Evaluations.{chain_first, chain_first-Fails, next_present, next-Fails, applied_present, next_applied, chained_at, chained_done, standing_at, sampled, first_holds, second_holds, branch_at, chosen_true, chosen_false, If_standing, dropped_at, chained-Fails, read_present, seen_outside}
 use Rattle.flat_model.proofs.Nodes.{nodes, all_nodes, nodes_within, nodes-Chain, nodes-Relation, nodes-Neg, nodes-Not, nodes-If, nodes-Apply, nodes-Sample}
 use Rattle.flat_model.proofs.evaluate.+value.Goals as goal
 
@@ -308,3 +310,240 @@ value_seen-value_seen-requires-in-Sample g t c κs within =
         ),
       ),
     )
+
+-- ---- the value of a call
+
+pub call_value-value_seen-requires : goal.call_value-value_seen-requires
+call_value-value_seen-requires g t c κs within =
+    let v = seen_from c.args.vantage (g.V.Lookup.views c.args.values.now) in
+    let is = c.in-Some.ensures.cases.0 in
+    let present = rw is at c.requires.present in
+    let standing = rw is at c.requires.standing in
+    let all : all_nodes c.args.parts.now ≡ nodes c.in-Some.first.now + all_nodes c.in-Some.rest.now = ap all_nodes is in (
+      omega (arith, c.decreases, all),
+      (search rules, ((λ absent. present (ap (λ a. called c.args.function (a ∷ answers c.in-Some.rest.now v)) absent)), (first_holds (may_stand c.in-Some.first.now c.args.vantage) (all_may_stand c.args.vantage c.in-Some.rest.now) standing, c.requires.interval))),
+    )
+
+-- ---- the value of an expression
+
+pub value_seen-now-requires : goal.value_seen-now-requires
+value_seen-now-requires g t c =
+    let v = seen_from c.args.vantage (g.V.Lookup.views c.args.values.now) in
+    read_present ((v 0).now c.in-Read.name) (λ absent. c.requires.present (ap (λ e. value_of e v) c.in-Read.is ∙ value_of-Read c.in-Read.name v ∙ absent))
+
+pub value_seen-last-requires : goal.value_seen-last-requires
+value_seen-last-requires g t c =
+    let v = seen_from c.args.vantage (g.V.Lookup.views c.args.values.now) in
+    read_present ((v 0).last c.in-Hold.name) (λ absent. c.requires.present (ap (λ e. value_of e v) c.in-Hold.is ∙ value_of-Hold c.in-Hold.name v ∙ absent))
+
+pub value_seen-last-requires-in-Convert : goal.value_seen-last-requires-in-Convert
+value_seen-last-requires-in-Convert g t c =
+    let v = seen_from c.args.vantage (g.V.Lookup.views c.args.values.now) in
+    read_present ((v 0).last c.in-Convert.name) (λ absent. c.requires.present (ap (λ e. value_of e v) c.in-Convert.is ∙ value_of-Convert c.in-Convert.field-0 c.in-Convert.name v ∙ absent))
+
+pub value_seen-previous-requires : goal.value_seen-previous-requires
+value_seen-previous-requires g t c =
+    let views = g.V.Lookup.views c.args.values.now in
+    let v = seen_from c.args.vantage views in
+    let x = c.in-Previous.name in
+    let outside = sym (may_stand-Previous x c.args.vantage) ∙ sym (ap (λ e. may_stand e c.args.vantage) c.in-Previous.is) ∙ c.requires.standing in
+    let value_is = ap (λ e. value_of e v) c.in-Previous.is ∙ value_of-Previous x v ∙ ap (λ w. read ((w 0).previous x)) (seen_outside c.args.vantage views outside) in
+    read_present ((views 0).previous x) (λ absent. c.requires.present (value_is ∙ absent))
+
+pub value_seen-interval_times-requires : goal.value_seen-interval_times-requires
+value_seen-interval_times-requires g t c = c.requires.interval
+
+pub value_seen-returns-in-Const : goal.value_seen-returns-in-Const
+value_seen-returns-in-Const g t c =
+    let v = seen_from c.args.vantage (g.V.Lookup.views c.args.values.now) in
+    sym (ap (λ e. value_of e v) c.in-Const.is ∙ value_of-Const c.in-Const.value v)
+
+pub value_seen-returns-in-Read : goal.value_seen-returns-in-Read
+value_seen-returns-in-Read g t c =
+    let v = seen_from c.args.vantage (g.V.Lookup.views c.args.values.now) in
+    sym (ap (λ e. value_of e v) c.in-Read.is ∙ value_of-Read c.in-Read.name v ∙ ap read c.now.ensures)
+
+pub value_seen-returns-in-Hold : goal.value_seen-returns-in-Hold
+value_seen-returns-in-Hold g t c =
+    let v = seen_from c.args.vantage (g.V.Lookup.views c.args.values.now) in
+    sym (ap (λ e. value_of e v) c.in-Hold.is ∙ value_of-Hold c.in-Hold.name v ∙ ap read c.last.ensures)
+
+pub value_seen-returns-in-Convert : goal.value_seen-returns-in-Convert
+value_seen-returns-in-Convert g t c =
+    let v = seen_from c.args.vantage (g.V.Lookup.views c.args.values.now) in
+    sym (ap (λ e. value_of e v) c.in-Convert.is ∙ value_of-Convert c.in-Convert.field-0 c.in-Convert.name v ∙ ap read c.last-in-Convert.ensures)
+
+pub value_seen-returns-in-Previous : goal.value_seen-returns-in-Previous
+value_seen-returns-in-Previous g t c =
+    let views = g.V.Lookup.views c.args.values.now in
+    let v = seen_from c.args.vantage views in
+    let x = c.in-Previous.name in
+    let outside = sym (may_stand-Previous x c.args.vantage) ∙ sym (ap (λ e. may_stand e c.args.vantage) c.in-Previous.is) ∙ c.requires.standing in
+    sym (ap (λ e. value_of e v) c.in-Previous.is ∙ value_of-Previous x v ∙ ap (λ w. read ((w 0).previous x)) (seen_outside c.args.vantage views outside) ∙ ap read c.previous.ensures)
+
+pub value_seen-returns-in-FirstTick : goal.value_seen-returns-in-FirstTick
+value_seen-returns-in-FirstTick g t c =
+    let views = g.V.Lookup.views c.args.values.now in
+    let v = seen_from c.args.vantage views in
+    let x = c.in-FirstTick.field-0 in
+    let outside = sym (may_stand-FirstTick x c.args.vantage) ∙ sym (ap (λ e. may_stand e c.args.vantage) c.in-FirstTick.is) ∙ c.requires.standing in
+    ap (λ b. Is (value.Bool b)) c.first.ensures
+    ∙ sym (ap (λ e. value_of e v) c.in-FirstTick.is ∙ value_of-FirstTick x v ∙ ap (λ w. Is (value.Bool (w 0).first)) (seen_outside c.args.vantage views outside))
+
+pub value_seen-returns-in-IntervalTimes : goal.value_seen-returns-in-IntervalTimes
+value_seen-returns-in-IntervalTimes g t c =
+    let views = g.V.Lookup.views c.args.values.now in
+    let v = seen_from c.args.vantage views in
+    let x = c.in-IntervalTimes.field-0 in let k = c.in-IntervalTimes.k in
+    let outside = sym (may_stand-IntervalTimes x k c.args.vantage) ∙ sym (ap (λ e. may_stand e c.args.vantage) c.in-IntervalTimes.is) ∙ c.requires.standing in
+    c.interval_times.ensures
+    ∙ sym (ap (λ e. value_of e v) c.in-IntervalTimes.is ∙ value_of-IntervalTimes x k v ∙ ap (λ w. settled (fitted (whole_of (w 0).interval k))) (seen_outside c.args.vantage views outside))
+
+pub value_seen-returns-in-Chain : goal.value_seen-returns-in-Chain
+value_seen-returns-in-Chain g t c =
+    let v = seen_from c.args.vantage (g.V.Lookup.views c.args.values.now) in
+    c.chain_value.ensures
+    ∙ ap₂ (λ os ps. chain os (answers ps v)) c.as_slice-in-Chain.ensures c.as_slice.ensures
+    ∙ sym (ap (λ e. value_of e v) c.in-Chain.is ∙ value_of-Chain c.in-Chain.parts c.in-Chain.ops v)
+
+pub value_seen-returns-in-Apply : goal.value_seen-returns-in-Apply
+value_seen-returns-in-Apply g t c =
+    let v = seen_from c.args.vantage (g.V.Lookup.views c.args.values.now) in
+    c.call_value.ensures
+    ∙ ap (λ ps. called c.in-Apply.function (answers ps v)) c.as_slice-in-Apply.ensures
+    ∙ sym (ap (λ e. value_of e v) c.in-Apply.is ∙ value_of-Apply c.in-Apply.function c.in-Apply.parts v)
+
+pub value_seen-returns-in-Sample : goal.value_seen-returns-in-Sample
+value_seen-returns-in-Sample g t c =
+    let views = g.V.Lookup.views c.args.values.now in
+    let v = seen_from c.args.vantage views in
+    let part = c.in-Sample.part in let clock = c.in-Sample.field-1 in
+    let standing = sym (may_stand-Sample part clock c.args.vantage) ∙ sym (ap (λ e. may_stand e c.args.vantage) c.in-Sample.is) ∙ c.requires.standing in
+    let outside = first_holds (outside_samples c.args.vantage) (may_stand part Left) standing in
+    c.value_seen-in-Sample.ensures
+    ∙ ap (λ e. value_of e (seen_from Left views)) c.get-in-Sample.ensures
+    ∙ sym (ap (λ e. value_of e v) c.in-Sample.is ∙ value_of-Sample part clock v ∙ sampled c.args.vantage views part outside)
+
+pub value_seen-negate-requires : goal.value_seen-negate-requires
+value_seen-negate-requires g t c absent =
+    let v = seen_from c.args.vantage (g.V.Lookup.views c.args.values.now) in
+    let part = c.in_ok-value_seen-in-Neg.ensures ∙ ap (λ e. value_of e v) c.get-in-Neg.ensures in
+    c.requires.present (ap (λ e. value_of e v) c.in-Neg.is ∙ value_of-Neg c.in-Neg.part v ∙ sym (ap negated part) ∙ absent)
+
+pub value_seen-returns-in_ok-value_seen-in-Neg : goal.value_seen-returns-in_ok-value_seen-in-Neg
+value_seen-returns-in_ok-value_seen-in-Neg g t c =
+    let v = seen_from c.args.vantage (g.V.Lookup.views c.args.values.now) in
+    let part = c.in_ok-value_seen-in-Neg.ensures ∙ ap (λ e. value_of e v) c.get-in-Neg.ensures in
+    c.negate.ensures ∙ ap negated part ∙ sym (ap (λ e. value_of e v) c.in-Neg.is ∙ value_of-Neg c.in-Neg.part v)
+
+pub value_seen-returns-in_err-value_seen-in-Neg : goal.value_seen-returns-in_err-value_seen-in-Neg
+value_seen-returns-in_err-value_seen-in-Neg g t c =
+    let v = seen_from c.args.vantage (g.V.Lookup.views c.args.values.now) in
+    let kind = c.in_err-value_seen-in-Neg.field-0.0 in
+    let failed : answer_of c.from_residual-in_err-value_seen-in-Neg.result ≡ Fails kind = search rules in
+    let part = c.in_err-value_seen-in-Neg.ensures ∙ ap (λ e. value_of e v) c.get-in-Neg.ensures in
+    failed ∙ ap negated part ∙ sym (ap (λ e. value_of e v) c.in-Neg.is ∙ value_of-Neg c.in-Neg.part v)
+
+pub value_seen-invert-requires : goal.value_seen-invert-requires
+value_seen-invert-requires g t c absent =
+    let v = seen_from c.args.vantage (g.V.Lookup.views c.args.values.now) in
+    let part = c.in_ok-value_seen-in-Not.ensures ∙ ap (λ e. value_of e v) c.get-in-Not.ensures in
+    c.requires.present (ap (λ e. value_of e v) c.in-Not.is ∙ value_of-Not c.in-Not.part v ∙ sym (ap inverted part) ∙ absent)
+
+pub value_seen-returns-in_ok-value_seen-in-Not : goal.value_seen-returns-in_ok-value_seen-in-Not
+value_seen-returns-in_ok-value_seen-in-Not g t c =
+    let v = seen_from c.args.vantage (g.V.Lookup.views c.args.values.now) in
+    let part = c.in_ok-value_seen-in-Not.ensures ∙ ap (λ e. value_of e v) c.get-in-Not.ensures in
+    c.invert.ensures ∙ ap inverted part ∙ sym (ap (λ e. value_of e v) c.in-Not.is ∙ value_of-Not c.in-Not.part v)
+
+pub value_seen-returns-in_err-value_seen-in-Not : goal.value_seen-returns-in_err-value_seen-in-Not
+value_seen-returns-in_err-value_seen-in-Not g t c =
+    let v = seen_from c.args.vantage (g.V.Lookup.views c.args.values.now) in
+    let kind = c.in_err-value_seen-in-Not.field-0.0 in
+    let failed : answer_of c.from_residual-in_err-value_seen-in-Not.result ≡ Fails kind = search rules in
+    let part = c.in_err-value_seen-in-Not.ensures ∙ ap (λ e. value_of e v) c.get-in-Not.ensures in
+    failed ∙ ap inverted part ∙ sym (ap (λ e. value_of e v) c.in-Not.is ∙ value_of-Not c.in-Not.part v)
+
+pub value_seen-returns-in_err-left-in-Relation : goal.value_seen-returns-in_err-left-in-Relation
+value_seen-returns-in_err-left-in-Relation g t c =
+    let v = seen_from c.args.vantage (g.V.Lookup.views c.args.values.now) in
+    let rel = c.in-Relation.rel in let left = c.in-Relation.left in let right = c.in-Relation.right in
+    let kind = c.in_err-left-in-Relation.field-0.0 in
+    let failed : answer_of c.from_residual.result ≡ Fails kind = search rules in
+    let first = c.in_err-left-in-Relation.ensures ∙ ap (λ e. value_of e v) c.get.ensures in
+    failed ∙ ap (λ a. relation rel a (value_of right v)) first ∙ sym (ap (λ e. value_of e v) c.in-Relation.is ∙ value_of-Relation rel left right v)
+
+pub value_seen-returns-in_err-right-in-Relation : goal.value_seen-returns-in_err-right-in-Relation
+value_seen-returns-in_err-right-in-Relation g t c =
+    let v = seen_from c.args.vantage (g.V.Lookup.views c.args.values.now) in
+    let rel = c.in-Relation.rel in let left = c.in-Relation.left in let right = c.in-Relation.right in
+    let kind = c.in_err-right-in-Relation.field-0.0 in
+    let failed : answer_of c.from_residual-in_err-right-in-Relation.result ≡ Fails kind = search rules in
+    let first = c.in_ok-left-in-Relation.ensures ∙ ap (λ e. value_of e v) c.get.ensures in
+    let second = c.in_err-right-in-Relation.ensures ∙ ap (λ e. value_of e v) c.get-in-Relation.ensures in
+    failed ∙ ap₂ (relation rel) first second ∙ sym (ap (λ e. value_of e v) c.in-Relation.is ∙ value_of-Relation rel left right v)
+
+pub value_seen-compare-requires : goal.value_seen-compare-requires
+value_seen-compare-requires g t c absent =
+    let v = seen_from c.args.vantage (g.V.Lookup.views c.args.values.now) in
+    let rel = c.in-Relation.rel in let left = c.in-Relation.left in let right = c.in-Relation.right in
+    let first = c.in_ok-left-in-Relation.ensures ∙ ap (λ e. value_of e v) c.get.ensures in
+    let second = c.in_ok-right-in-Relation.ensures ∙ ap (λ e. value_of e v) c.get-in-Relation.ensures in
+    c.requires.present (ap (λ e. value_of e v) c.in-Relation.is ∙ value_of-Relation rel left right v ∙ sym (ap₂ (relation rel) first second) ∙ absent)
+
+pub value_seen-returns-in_ok-right-in-Relation : goal.value_seen-returns-in_ok-right-in-Relation
+value_seen-returns-in_ok-right-in-Relation g t c =
+    let v = seen_from c.args.vantage (g.V.Lookup.views c.args.values.now) in
+    let rel = c.in-Relation.rel in let left = c.in-Relation.left in let right = c.in-Relation.right in
+    let first = c.in_ok-left-in-Relation.ensures ∙ ap (λ e. value_of e v) c.get.ensures in
+    let second = c.in_ok-right-in-Relation.ensures ∙ ap (λ e. value_of e v) c.get-in-Relation.ensures in
+    c.compare.ensures ∙ ap₂ (relation rel) first second ∙ sym (ap (λ e. value_of e v) c.in-Relation.is ∙ value_of-Relation rel left right v)
+
+pub value_seen-loop-i-init : goal.value_seen-loop-i-init
+value_seen-loop-i-init g t c =
+    let v = seen_from c.args.vantage (g.V.Lookup.views c.args.values.now) in
+    let other = value_of c.in-If.other v in
+    ap₂ (λ cs bs. chosen (answers cs v) (answers bs v) other) c.as_slice-condition-items.ensures c.as_slice-branches.ensures
+    ∙ sym (ap (λ e. value_of e v) c.in-If.is ∙ value_of-If c.in-If.conditions c.in-If.branches c.in-If.other v)
+
+pub value_seen-bounds-condition-items-i : goal.value_seen-bounds-condition-items-i
+value_seen-bounds-condition-items-i g t c = omega (arith, c.loop-i-test.true)
+
+pub value_seen-loop-i-smaller : goal.value_seen-loop-i-smaller
+value_seen-loop-i-smaller g t c = omega (arith, c.loop-i-test.true)
+
+pub value_seen-returns-in_err-holds-in-If : goal.value_seen-returns-in_err-holds-in-If
+value_seen-returns-in_err-holds-in-If g t c =
+    let v = seen_from c.args.vantage (g.V.Lookup.views c.args.values.now) in
+    let i = c.loop-i.i in let conditions = c.as_slice-condition-items.result.now in let branches = c.as_slice-branches.result.now in
+    let other = value_of c.in-If.other v in let condition = c.condition-item.result in
+    let inside : i < length conditions = omega (arith, c.loop-i-test.true) in
+    let kind = c.in_err-holds-in-If.field-0.0 in
+    let failed : answer_of c.from_residual-in_err-holds-in-If.result ≡ Fails kind = search rules in
+    failed
+    ∙ ap (λ a. chosen (a ∷ answers (drop (suc i) conditions) v) (answers (drop i branches) v) other) c.in_err-holds-in-If.ensures
+    ∙ sym (ap (λ cs. chosen (answers cs v) (answers (drop i branches) v) other) (dropped_at conditions i condition inside c.condition-item.is))
+    ∙ c.loop-i.invariant
+
+pub value_seen-returns-after-loop-i : goal.value_seen-returns-after-loop-i
+value_seen-returns-after-loop-i g t c =
+    let v = seen_from c.args.vantage (g.V.Lookup.views c.args.values.now) in
+    let i = c.loop-i.i in let conditions = c.as_slice-condition-items.result.now in let branches = c.as_slice-branches.result.now in
+    let other = value_of c.in-If.other v in
+    c.value_seen-in-If.ensures ∙ ap (λ e. value_of e v) c.get-in-If.ensures
+    ∙ sym (ap (λ cs. chosen (answers cs v) (answers (drop i branches) v) other) (drop_all i conditions c.loop-i-test.false))
+    ∙ c.loop-i.invariant
+
+pub value_seen-bounds-branches-i : goal.value_seen-bounds-branches-i
+value_seen-bounds-branches-i g t c =
+    let v = seen_from c.args.vantage (g.V.Lookup.views c.args.values.now) in
+    let i = c.loop-i.i in let conditions = c.as_slice-condition-items.result.now in let branches = c.as_slice-branches.result.now in
+    let other = value_of c.in-If.other v in let condition = c.condition-item.result in
+    let inside : i < length conditions = omega (arith, c.loop-i-test.true) in
+    let holds = c.in-Bool.holds in
+    let is_bool : value_of condition v ≡ Is (value.Bool holds) = sym c.in_ok-holds-in-If.ensures ∙ ap Is c.in-Bool.is in
+    let from : chosen (Is (value.Bool holds) ∷ answers (drop (suc i) conditions) v) (answers (drop i branches) v) other ≡ value_of c.args.expr.now v =
+    ap (λ a. chosen (a ∷ answers (drop (suc i) conditions) v) (answers (drop i branches) v) other) (sym is_bool)
+    ∙ sym (ap (λ cs. chosen (answers cs v) (answers (drop i branches) v) other) (dropped_at conditions i condition inside c.condition-item.is))
+    ∙ c.loop-i.invariant in
+    branch_at holds (answers (drop (suc i) conditions) v) branches i other v (λ absent. c.requires.present (sym from ∙ absent))
