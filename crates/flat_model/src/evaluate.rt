@@ -16,7 +16,7 @@ use rational_time::{floor_between, floor_times};
 use sync_values::{ChainOp, Fail, Value};
 
 /// Where names are seen from: the moment itself, or the moment before, as in the argument of `sample`.
-#[derive(Clone, Copy, Debug, PartialEq, Eq)]
+#[derive(Clone, Copy)]
 pub enum Vantage {
     Now,
     Left,
