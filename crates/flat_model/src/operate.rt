@@ -8,25 +8,27 @@ use sync_values::{
     ChainOp, Fail, Rel, Value, abs, add, div, greatest, least, modulo, mul, neg, relate, rem, sub,
 };
 
-/// The number with the other sign.
-pub(crate) fn negate(part: Value) -> Result<Value, Fail>
-    requires { negated (Is part) ≢ Absent }
-    ensures { answer_of result ≡ negated (Is part) }
+/// The number with the other sign, where it has a value.
+pub(crate) fn negate(part: Result<Value, Fail>) -> Result<Value, Fail>
+    requires { negated (answer_of part) ≢ Absent }
+    ensures { answer_of result ≡ negated (answer_of part) }
 {
     match part {
-        Value::Int(number) => Ok(Value::Int(neg(number)?)),
-        Value::Bool(_) => unreachable!(),
+        Ok(Value::Int(number)) => Ok(Value::Int(neg(number)?)),
+        Ok(Value::Bool(_)) => unreachable!(),
+        Err(kind) => Err(kind),
     }
 }
 
-/// The other truth value.
-pub(crate) fn invert(part: Value) -> Value
-    requires { inverted (Is part) ≢ Absent }
-    ensures { Is result ≡ inverted (Is part) }
+/// The other truth value, where it has a value.
+pub(crate) fn invert(part: Result<Value, Fail>) -> Result<Value, Fail>
+    requires { inverted (answer_of part) ≢ Absent }
+    ensures { answer_of result ≡ inverted (answer_of part) }
 {
     match part {
-        Value::Bool(truth) => Value::Bool(!truth),
-        Value::Int(_) => unreachable!(),
+        Ok(Value::Bool(truth)) => Ok(Value::Bool(!truth)),
+        Ok(Value::Int(_)) => unreachable!(),
+        Err(kind) => Err(kind),
     }
 }
 
