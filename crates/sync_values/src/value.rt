@@ -1,5 +1,5 @@
 /// A value of an Integer or Boolean expression.
-#[derive(Clone, Copy, PartialEq, Eq)]
+#[derive(Clone, Copy, Debug, PartialEq, Eq)]
 pub enum Value {
     Int(i64),
     Bool(bool),
