@@ -1,5 +1,5 @@
 -- How much of a file has been read.
-use Rattle.std.proofs.Common.{◌≡◌, ◌≤◌, ◌<◌, ◌+◌, ◌++◌, ◌∙◌, ap, ap₂, sym, ℕ, List, [], take, drop, length, length-append, length-take, arith}
+use Rattle.std.proofs.Common.{◌≡◌, ◌≤◌, ◌<◌, ◌+◌, ◌++◌, ◌∙◌, ap, ap₂, sym, ℕ, List, [], take, length, length-append, length-take, arith}
 use Rattle.std.proofs.Math.Seq.{take-add}
 use Rattle.std.proofs.lemmas.List.{take_all}
 use Rattle.outside_io.specs.Files.{Told, Untold, NotHeld, File, IsPart, IsPastEnd, IsWhole, IsLonger}

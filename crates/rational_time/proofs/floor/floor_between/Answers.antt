@@ -1,4 +1,4 @@
-use Rattle.std.proofs.Common.{arith, ap₂, ◌*◌, ◌-◌, ◌<◌, mul-le-mul_right, ◌+◌}
+use Rattle.std.proofs.Common.{arith, ◌*◌}
 use Rattle.std.proofs.lemmas.Nat.{mul-lt}
 use Rattle.rational_time.proofs.Products.{product_positive}
 use Rattle.rational_time.proofs.floor.floor_between.Goals as goal
