@@ -1,5 +1,5 @@
 -- Which parts of an expression with a value have values, and what a failure decides.
-use Rattle.std.proofs.Common.{◌≡◌, ◌≢◌, refl, ap, ap₂, ◌∙◌, sym, ℕ, zero, suc, ◌<◌, ◌≤◌, Bool, true, false, ◌&&◌, List, [], ◌∷◌, length, get_or, drop, length-drop, arith, Result, Ok, Err, ℤ}
+use Rattle.std.proofs.Common.{◌≡◌, ◌≢◌, refl, ap, ap₂, ◌∙◌, sym, ℕ, zero, suc, ◌<◌, ◌≤◌, Bool, true, false, ◌&&◌, List, [], ◌∷◌, length, get_or, drop, length-drop, arith, Result, Ok, Err, ℤ, Option, Some, None, IsSome, rules}
 use Rattle.std.proofs.Math.Seq.{drop-cons}
 use Rattle.std.proofs.lemmas.List.{drop_all}
 use Rattle.sync_values.specs.declared.value.Value.{Value}
@@ -7,7 +7,7 @@ use Rattle.sync_values.specs.declared.value.Value.TheVariants as value
 use Rattle.sync_values.specs.declared.value.Fail.{Fail}
 use Rattle.sync_values.specs.declared.value.ChainOp.{ChainOp}
 use Rattle.sync_values.specs.declared.value.ChainOp.TheVariants.{Plus, Minus, Times, Over, And, Or}
-use Rattle.flat_model.specs.Operators.{Answer, Is, Fails, Absent, applied, joined, chained, chain, chosen, settled}
+use Rattle.flat_model.specs.Operators.{Answer, Is, Fails, Absent, applied, joined, chained, chain, chosen, settled, read}
 use Rattle.flat_model.specs.declared.expression.Expr.{Expr}
 use Rattle.flat_model.specs.declared.expression.Expr.TheVariants.{If}
 use Rattle.flat_model.proofs.Standings.{may_stand-If}
@@ -203,3 +203,13 @@ sampled Left views part outside = absurd (cc outside)
 pub settled_present : (result : Result ℤ Fail) → settled result ≢ Absent
 settled_present (Ok z) absent = absurd (cc absent)
 settled_present (Err kind) absent = absurd (cc absent)
+
+-- what is read is there
+pub read_present : (o : Option Value) → read o ≢ Absent → IsSome o
+read_present None present = absurd (present refl)
+read_present (Some v) present = search rules
+
+-- outside the arguments of `sample` all is seen from the moment itself
+pub seen_outside : (vantage : Vantage) (views : Views) → outside_samples vantage ≡ true → seen_from vantage views ≡ views
+seen_outside Now views outside = refl
+seen_outside Left views outside = absurd (cc outside)

@@ -19,7 +19,7 @@ nodes_of_level (Expr-F.Chain parts ops) = 2 + total parts
 nodes_of_level (Expr-F.Relation rel left right) = 1 + (left + right)
 nodes_of_level (Expr-F.Neg part) = 1 + part
 nodes_of_level (Expr-F.Not part) = 1 + part
-nodes_of_level (Expr-F.If conditions branches other) = 1 + (total conditions + (total branches + other))
+nodes_of_level (Expr-F.If conditions branches other) = 2 + (total conditions + (total branches + other))
 nodes_of_level (Expr-F.Apply function parts) = 2 + total parts
 nodes_of_level (Expr-F.Sample part clock) = 1 + part
 nodes_of_level _ = 1
@@ -46,7 +46,7 @@ pub nodes-Not : (part : Expr) → nodes (Not part) ≡ 1 + nodes part
 unfolding nodes
 nodes-Not part = ap nodes (sym (rolls-Not part)) ∙ fold-roll-Expr (Unit {0}) ℕ (λ _. tt) nodes_of_level (Expr-F.Not part)
 
-pub nodes-If : (conditions branches : List Expr) (other : Expr) → nodes (If conditions branches other) ≡ 1 + (all_nodes conditions + (all_nodes branches + nodes other))
+pub nodes-If : (conditions branches : List Expr) (other : Expr) → nodes (If conditions branches other) ≡ 2 + (all_nodes conditions + (all_nodes branches + nodes other))
 unfolding nodes
 nodes-If conditions branches other = ap nodes (sym (rolls-If conditions branches other)) ∙ fold-roll-Expr (Unit {0}) ℕ (λ _. tt) nodes_of_level (Expr-F.If conditions branches other)
 

@@ -6,7 +6,7 @@ use sync_values::List;
 /// How the clock of a result follows from that of an argument. A factor of 0 is inferred.
 ///
 /// Source: MLS 3.6, chapter 16, "Sub-clock conversion operators".
-#[derive(Clone, Copy, Debug, PartialEq, Eq)]
+#[derive(Clone, Copy)]
 pub enum Conversion {
     /// Tick k is tick `factor * k` of the argument.
     Sub(u32),
@@ -36,7 +36,7 @@ pub enum ClockExpr {
 }
 
 /// A clock: an axis, and for each k from 0 the position of tick k on it.
-#[derive(Clone, Copy, Debug, PartialEq, Eq)]
+#[derive(Clone, Copy)]
 pub enum Clock {
     /// Tick k is at `start + k * period` seconds.
     Periodic { period: Ratio, start: Ratio },
@@ -56,14 +56,14 @@ pub struct Clocking {
 }
 
 /// A moment of a run: the one before all instants, or an instant in seconds.
-#[derive(Clone, Copy, Debug, PartialEq, Eq)]
+#[derive(Clone, Copy)]
 pub enum Moment {
     Initial,
     At(Ratio),
 }
 
 /// The interval of a clock at one of its ticks, in seconds.
-#[derive(Clone, Copy, Debug, PartialEq, Eq)]
+#[derive(Clone, Copy)]
 pub enum Elapsed {
     Period(Ratio),
     /// The time from the first instant to the second. Both are the same at the first tick of an event clock.

@@ -1,7 +1,7 @@
 ghost use Rattle.std.specs.Prelude.{◌≡◌, ◌≢◌, ◌*◌, Some, IsSome, true};
 ghost use Rattle.rational_time.specs.Fraction.{IsFloor};
 ghost use Rattle.sync_values.specs.Arithmetic.{fitted};
-ghost use Rattle.flat_model.specs.Operators.{Absent, chain, settled};
+ghost use Rattle.flat_model.specs.Operators.{Absent, chain, chosen, settled};
 ghost use Rattle.flat_model.specs.Functions.{called};
 ghost use Rattle.flat_model.specs.Meaning.{value_of, answers, whole_of};
 ghost use Rattle.flat_model.specs.Evaluation.{answer_of, seen_from, has_enough};
@@ -16,7 +16,7 @@ use rational_time::{floor_between, floor_times};
 use sync_values::{ChainOp, Fail, Value};
 
 /// Where names are seen from: the moment itself, or the moment before, as in the argument of `sample`.
-#[derive(Clone, Copy, Debug, PartialEq, Eq)]
+#[derive(Clone, Copy)]
 pub enum Vantage {
     Now,
     Left,
@@ -130,6 +130,39 @@ fn call_value<V: Lookup>(
     call_with_two(function, first, second)
 }
 
+/// The value of the branch of the first condition that is true, or else of the last branch.
+#[cycle(value)]
+fn choice_value<V: Lookup>(
+    conditions: &[Expr],
+    branches: &[Expr],
+    other: &Expr,
+    values: &V,
+    vantage: Vantage,
+) -> Result<Value, Fail>
+    requires present { chosen
+        (answers conditions.now (seen_from vantage (V.views values.now)))
+        (answers branches.now (seen_from vantage (V.views values.now)))
+        (value_of other.now (seen_from vantage (V.views values.now))) ≢ Absent }
+    requires conditions { all_may_stand vantage conditions.now ≡ true }
+    requires branches { all_may_stand vantage branches.now ≡ true }
+    requires other { may_stand other.now vantage ≡ true }
+    requires interval { IsMeasurable (V.elapsed values.now) }
+    ensures { answer_of result ≡ chosen
+        (answers conditions.now (seen_from vantage (V.views values.now)))
+        (answers branches.now (seen_from vantage (V.views values.now)))
+        (value_of other.now (seen_from vantage (V.views values.now))) }
+{
+    for (i, condition) in conditions.iter().enumerate() {
+        let Value::Bool(holds) = value_seen(condition, values, vantage)? else {
+            unreachable!();
+        };
+        if holds {
+            return value_seen(&branches[i], values, vantage);
+        }
+    }
+    value_seen(other, values, vantage)
+}
+
 /// The value of an expression from a vantage.
 #[cycle(value)]
 #[tactic(auto, using(crate::proofs::Values::values, crate::proofs::Standings::standings))]
@@ -148,20 +181,15 @@ fn value_seen<V: Lookup>(expr: &Expr, values: &V, vantage: Vantage) -> Result<Va
             let right = value_seen(right.get(), values, vantage)?;
             Ok(compare(*rel, left, right))
         }
-        Expr::Neg(part) => negate(value_seen(part.get(), values, vantage)?),
-        Expr::Not(part) => Ok(invert(value_seen(part.get(), values, vantage)?)),
-        Expr::If(conditions, branches, other) => {
-            let branches = branches.as_slice();
-            for (i, condition) in conditions.as_slice().iter().enumerate() {
-                let Value::Bool(holds) = value_seen(condition, values, vantage)? else {
-                    unreachable!();
-                };
-                if holds {
-                    return value_seen(&branches[i], values, vantage);
-                }
-            }
-            value_seen(other.get(), values, vantage)
-        }
+        Expr::Neg(part) => negate(value_seen(part.get(), values, vantage)),
+        Expr::Not(part) => invert(value_seen(part.get(), values, vantage)),
+        Expr::If(conditions, branches, other) => choice_value(
+            conditions.as_slice(),
+            branches.as_slice(),
+            other.get(),
+            values,
+            vantage,
+        ),
         Expr::Apply(function, parts) => call_value(*function, parts.as_slice(), values, vantage),
         Expr::Previous(name) => Ok(values.previous(*name)),
         Expr::FirstTick(_) => Ok(Value::Bool(values.first())),

@@ -3,7 +3,7 @@ use sqlite_items::Boxed;
 use sync_values::{ChainOp, List, Rel, Value};
 
 /// A function that an expression may call.
-#[derive(Clone, Copy, Debug, PartialEq, Eq)]
+#[derive(Clone, Copy, Debug)]
 pub enum Fun {
     Div,
     Mod,

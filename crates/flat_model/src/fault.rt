@@ -2,7 +2,7 @@ use crate::clock::Moment;
 use sync_values::Fail;
 
 /// Where an arithmetic fault comes from.
-#[derive(Clone, Copy, Debug, PartialEq, Eq)]
+#[derive(Clone, Copy)]
 pub enum FaultPlace {
     Equation(u32),
     /// The condition of an event clock.
@@ -10,7 +10,7 @@ pub enum FaultPlace {
 }
 
 /// The first arithmetic fault of a run.
-#[derive(Clone, Copy, Debug, PartialEq, Eq)]
+#[derive(Clone, Copy)]
 pub struct Fault {
     pub moment: Moment,
     pub place: FaultPlace,

@@ -2,7 +2,7 @@ use crate::clock::ClockExpr;
 use crate::equation::Equation;
 use sync_values::{List, Text, Value};
 
-#[derive(Clone, Copy, Debug, PartialEq, Eq)]
+#[derive(Clone, Copy, PartialEq, Eq)]
 pub enum NameKind {
     Integer,
     Boolean,

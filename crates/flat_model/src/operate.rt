@@ -1,5 +1,5 @@
 ghost use Rattle.std.specs.Prelude.{◌≡◌, ◌≢◌, [], ◌∷◌};
-ghost use Rattle.flat_model.specs.Operators.{Is, Absent, negated, inverted, applied, relation};
+ghost use Rattle.flat_model.specs.Operators.{Is, Absent, settled, negated, inverted, applied, relation};
 ghost use Rattle.flat_model.specs.Functions.{called};
 ghost use Rattle.flat_model.specs.Evaluation.{answer_of};
 
@@ -8,25 +8,37 @@ use sync_values::{
     ChainOp, Fail, Rel, Value, abs, add, div, greatest, least, modulo, mul, neg, relate, rem, sub,
 };
 
-/// The number with the other sign.
-pub(crate) fn negate(part: Value) -> Result<Value, Fail>
-    requires { negated (Is part) ≢ Absent }
-    ensures { answer_of result ≡ negated (Is part) }
+/// A number as a value, where it has come out.
+fn whole(number: Result<i64, Fail>) -> Result<Value, Fail>
+    ensures { answer_of result ≡ settled number }
 {
-    match part {
-        Value::Int(number) => Ok(Value::Int(neg(number)?)),
-        Value::Bool(_) => unreachable!(),
+    match number {
+        Ok(number) => Ok(Value::Int(number)),
+        Err(kind) => Err(kind),
     }
 }
 
-/// The other truth value.
-pub(crate) fn invert(part: Value) -> Value
-    requires { inverted (Is part) ≢ Absent }
-    ensures { Is result ≡ inverted (Is part) }
+/// The number with the other sign, where it has a value.
+pub(crate) fn negate(part: Result<Value, Fail>) -> Result<Value, Fail>
+    requires { negated (answer_of part) ≢ Absent }
+    ensures { answer_of result ≡ negated (answer_of part) }
 {
     match part {
-        Value::Bool(truth) => Value::Bool(!truth),
-        Value::Int(_) => unreachable!(),
+        Ok(Value::Int(number)) => whole(neg(number)),
+        Ok(Value::Bool(_)) => unreachable!(),
+        Err(kind) => Err(kind),
+    }
+}
+
+/// The other truth value, where it has a value.
+pub(crate) fn invert(part: Result<Value, Fail>) -> Result<Value, Fail>
+    requires { inverted (answer_of part) ≢ Absent }
+    ensures { answer_of result ≡ inverted (answer_of part) }
+{
+    match part {
+        Ok(Value::Bool(truth)) => Ok(Value::Bool(!truth)),
+        Ok(Value::Int(_)) => unreachable!(),
+        Err(kind) => Err(kind),
     }
 }
 
@@ -36,9 +48,9 @@ pub(crate) fn apply(op: ChainOp, left: Value, right: Value) -> Result<Value, Fai
     ensures { answer_of result ≡ applied op left right }
 {
     match (op, left, right) {
-        (ChainOp::Plus, Value::Int(a), Value::Int(b)) => Ok(Value::Int(add(a, b)?)),
-        (ChainOp::Minus, Value::Int(a), Value::Int(b)) => Ok(Value::Int(sub(a, b)?)),
-        (ChainOp::Times, Value::Int(a), Value::Int(b)) => Ok(Value::Int(mul(a, b)?)),
+        (ChainOp::Plus, Value::Int(a), Value::Int(b)) => whole(add(a, b)),
+        (ChainOp::Minus, Value::Int(a), Value::Int(b)) => whole(sub(a, b)),
+        (ChainOp::Times, Value::Int(a), Value::Int(b)) => whole(mul(a, b)),
         (ChainOp::And, Value::Bool(_), Value::Bool(_)) => Ok(right),
         (ChainOp::Or, Value::Bool(_), Value::Bool(_)) => Ok(right),
         _ => unreachable!(),
@@ -59,7 +71,7 @@ pub(crate) fn call_with_one(function: Fun, part: Value) -> Result<Value, Fail>
     ensures { answer_of result ≡ called function (Is part ∷ []) }
 {
     match (function, part) {
-        (Fun::Abs, Value::Int(number)) => Ok(Value::Int(abs(number)?)),
+        (Fun::Abs, Value::Int(number)) => whole(abs(number)),
         _ => unreachable!(),
     }
 }
@@ -72,13 +84,12 @@ pub(crate) fn call_with_two(function: Fun, first: Value, second: Value) -> Resul
     let (Value::Int(a), Value::Int(b)) = (first, second) else {
         unreachable!();
     };
-    let number = match function {
-        Fun::Div => div(a, b)?,
-        Fun::Mod => modulo(a, b)?,
-        Fun::Rem => rem(a, b)?,
-        Fun::Min => least(a, b),
-        Fun::Max => greatest(a, b),
+    match function {
+        Fun::Div => whole(div(a, b)),
+        Fun::Mod => whole(modulo(a, b)),
+        Fun::Rem => whole(rem(a, b)),
+        Fun::Min => Ok(Value::Int(least(a, b))),
+        Fun::Max => Ok(Value::Int(greatest(a, b))),
         Fun::Abs => unreachable!(),
-    };
-    Ok(Value::Int(number))
+    }
 }

@@ -1,7 +1,7 @@
 -- Parents that change and keep what they link.
-use Rattle.std.proofs.Common.{◌≡◌, ◌≢◌, ℕ, ◌<◌, ◌+◌, List, [], ◌∷◌, ◌++◌, ◌⊎◌, inl, inr, length, get_or, set, min, max, refl, sym, ap, subst, ◌∙◌, arith}
+use Rattle.std.proofs.Common.{◌≡◌, ◌≢◌, ℕ, ◌<◌, ◌+◌, ◌-◌, zero, suc, List, [], ◌∷◌, ◌++◌, ◌⊎◌, inl, inr, length, get_or, set, min, max, refl, sym, ap, subst, ◌∙◌, arith}
 use Rattle.std.proofs.lemmas.Bool.{cases_eq, cases_lt}
-use Rattle.std.proofs.lemmas.List.{get_or-set_same, get_or-set_other, get_or_default}
+use Rattle.std.proofs.lemmas.List.{get_or-set_same, get_or-set_other, get_or_default, get_or_append_left, get_or-append_right, get_or_push}
 use Rattle.std.proofs.lemmas.List.Elements.{Contains-push, Contains-push_cases, Contains-append_left}
 use Rattle.mo_connect.specs.declared.Pair.{Pair}
 use Rattle.mo_connect.specs.Chain.{Chain, stay, forward, backward, IsPair, AreJoined}
@@ -213,3 +213,17 @@ roots_links parents root = record {
   joined =
       refined (λ x y. parent_of parents x ≡ y) (IsPair []) (λ x y is. subst (Chain (IsPair []) x) (sym (root x) ∙ is) (stay x));
 }
+
+past_one : (x n d : ℕ) → 0 < n → get_or (x ∷ []) n d ≡ d
+past_one x zero d past = absurd (omega (arith, past))
+past_one x (suc n) d past = refl
+
+-- one more number that is its own parent
+pub root_pushed : (parents : List ℕ) (x y : ℕ) → length parents ≡ x → IsRoot parents y → IsRoot (parents ++ x ∷ []) y
+root_pushed parents x y size root = elim (cases_lt y x) [
+  | inl below ↦ get_or_append_left parents (x ∷ []) y y (omega (arith, below, size)) ∙ root
+  | inr above ↦ elim (cases_lt x y) [
+    | inl past ↦ get_or-append_right parents (x ∷ []) x y y size above ∙ past_one x (y - x) y (omega (arith, past))
+    | inr not_past ↦ let same : x ≡ y = omega (arith, above, not_past) in get_or_push parents x y y (size ∙ same) ∙ same
+  ]
+]

@@ -1,5 +1,5 @@
 -- Pieces at the front of a text: what their first byte may be, and how the longest is shown to be the longest.
-use Rattle.std.proofs.Common.{◌≡◌, ◌≤◌, ◌++◌, ◌&&◌, ◌==◌, ◌⊎◌, inl, inr, ◌∙◌, ℕ, Bool, true, false, not, cond, List, [], ◌∷◌, length, take, drop, refl, ap, sym, subst, arith, length-append}
+use Rattle.std.proofs.Common.{◌≡◌, ◌≤◌, ◌++◌, ◌&&◌, ◌==◌, ◌⊎◌, inl, inr, ◌∙◌, ℕ, Bool, true, false, not, cond, List, [], ◌∷◌, length, take, drop, refl, ap, sym, subst, arith, length-append, length-take}
 use Rattle.std.specs.List.{list_all, take_while, prefix_len}
 use Rattle.std.proofs.lemmas.List.{take-append-drop, length-take-le}
 use Rattle.std.proofs.lemmas.List.Sums.{take_while-cons}
@@ -120,3 +120,7 @@ first_run p b t h = take_while-cons p b t ∙ ap (λ x. cond x (b ∷ take_while
 
 pub run_split : (p : ℕ → Bool) (t : List ℕ) → t ≡ take_while p t ++ drop (length (take_while p t)) t
 run_split p t = sym (ap (λ n. take_while p t ++ drop n t) (length-prefix_len p t) ∙ take-append-drop (prefix_len p t) t)
+
+-- a front is no longer than the whole
+pub front_within : (p : ℕ → Bool) (t : List ℕ) → length (take_while p t) ≤ length t
+front_within p t = omega (arith, length-take (prefix_len p t) t)

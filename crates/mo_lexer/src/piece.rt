@@ -1,7 +1,7 @@
 use crate::token::Sym;
 
 /// What the bytes at a place of a text are, before the limits of names and numbers are asked.
-#[derive(Clone, Copy, Debug, PartialEq, Eq)]
+#[derive(Clone, Copy, PartialEq, Eq)]
 pub enum Piece {
     /// Spaces, tabs and line ends.
     Separator,

@@ -1,5 +1,5 @@
 /// A token with the bytes it stands on: from `at` up to, not including, `end`, counted from 0 in the text.
-#[derive(Clone, Copy, Debug, PartialEq, Eq)]
+#[derive(Clone, Copy, PartialEq, Eq)]
 pub struct Token {
     pub kind: TokenKind,
     pub at: u32,
@@ -7,7 +7,7 @@ pub struct Token {
 }
 
 /// What a token is. Source: MLS 3.6, chapter 2, "Lexical Structure", in this project's profile.
-#[derive(Clone, Copy, Debug, PartialEq, Eq)]
+#[derive(Clone, Copy, PartialEq, Eq)]
 pub enum TokenKind {
     /// A name that is no keyword; its spelling is read from the text.
     Ident,
@@ -24,7 +24,7 @@ pub enum TokenKind {
 }
 
 /// A keyword of the language.
-#[derive(Clone, Copy, Debug, PartialEq, Eq)]
+#[derive(Clone, Copy, PartialEq, Eq)]
 pub enum Word {
     KwAlgorithm,
     KwAnd,
@@ -88,7 +88,7 @@ pub enum Word {
 }
 
 /// A symbol of one or two bytes.
-#[derive(Clone, Copy, Debug, PartialEq, Eq)]
+#[derive(Clone, Copy, PartialEq, Eq)]
 pub enum Sym {
     /// `(`
     RoundOpen,

@@ -1,9 +1,33 @@
 -- How much of a file has been read.
-use Rattle.std.proofs.Common.{◌≡◌, ◌≤◌, ℕ, List, [], take, length}
-use Rattle.outside_io.specs.Files.{Told, Untold, NotHeld, File}
+use Rattle.std.proofs.Common.{◌≡◌, ◌≤◌, ◌<◌, ◌+◌, ◌++◌, ◌∙◌, ap, ap₂, sym, ℕ, List, [], take, length, length-append, length-take, arith}
+use Rattle.std.proofs.Math.Seq.{take-add}
+use Rattle.std.proofs.lemmas.List.{take_all}
+use Rattle.outside_io.specs.Files.{Told, Untold, NotHeld, File, IsPart, IsPastEnd, IsWhole, IsLonger}
 
 -- these bytes are the front of the file, where it is told
 abbrev pub IsFront : Told → List ℕ → Type 0
 IsFront Untold front = Unit {0}
 IsFront NotHeld front = front ≡ []
 IsFront (File bytes) front = (length front ≤ length bytes) × (front ≡ take (length front) bytes)
+
+-- with the part that follows it is a front too
+pub front_more : (file : Told) (front into : List ℕ) (count : ℕ) → count ≤ length into → IsFront file front → IsPart file (length front) into count → IsFront file (front ++ take count into)
+front_more Untold front into count within before part = tt
+front_more NotHeld front into count within before part = absurd part
+front_more (File bytes) front into count within before part =
+    let size : length (front ++ take count into) ≡ length front + count = omega (arith, length-append front (take count into), length-take count into, within) in (
+      omega (arith, size, part.0),
+      ap₂ (λ a b. a ++ b) before.1 part.1 ∙ sym (take-add (length front) count bytes) ∙ sym (ap (λ n. take n bytes) size),
+    )
+
+-- past the end it is the whole
+pub front_whole : (file : Told) (front : List ℕ) → IsFront file front → IsPastEnd file (length front) → IsWhole file front
+front_whole Untold front before past = tt
+front_whole NotHeld front before past = past
+front_whole (File bytes) front before past = before.1 ∙ take_all (length front) bytes past
+
+-- a file is longer than what its front is longer than; a name that is not held has no such front
+pub front_longer : (file : Told) (front : List ℕ) (limit : ℕ) → IsFront file front → limit < length front → IsLonger file limit
+front_longer Untold front limit before over = tt
+front_longer NotHeld front limit before over = let none : length front ≡ 0 = ap length before in omega (arith, none, over)
+front_longer (File bytes) front limit before over = omega (arith, before.0, over)

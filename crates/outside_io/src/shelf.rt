@@ -5,7 +5,7 @@ ghost use Rattle.outside_io.specs.Files.{Files, told};
 ghost use Rattle.outside_io.specs.Reads.{Gives};
 
 /// What a read of a file gave.
-#[derive(Clone, Copy, Debug, PartialEq, Eq)]
+#[derive(Clone, Copy, PartialEq, Eq)]
 pub enum Read {
     /// So many bytes, at least one, at the front of the buffer.
     Bytes(usize),

@@ -5,7 +5,7 @@ ghost use Rattle.outside_io.specs.Puts.{Takes};
 ghost use Rattle.outside_io.specs.Texts.{grown, GrewByPrefix};
 
 /// How much of a piece a sink took.
-#[derive(Clone, Copy, Debug, PartialEq, Eq)]
+#[derive(Clone, Copy)]
 pub enum Put {
     /// So many of the first bytes of the piece, at least one.
     Taken(usize),
@@ -14,7 +14,7 @@ pub enum Put {
 }
 
 /// A put failed, so not the whole of a piece was put.
-#[derive(Clone, Copy, Debug, PartialEq, Eq)]
+#[derive(Clone, Copy, PartialEq, Eq)]
 pub struct WriteFailed;
 
 /// A text that grows, with the faults of writing it counted.

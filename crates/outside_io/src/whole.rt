@@ -11,7 +11,7 @@ use std::alloc::{AllocError, Global};
 const PART_LEN: usize = 16_384;
 
 /// Why a file was not read whole.
-#[derive(Clone, Copy, Debug, PartialEq, Eq)]
+#[derive(Clone, Copy, PartialEq, Eq)]
 pub enum ReadEnd {
     /// A read failed.
     Failed,

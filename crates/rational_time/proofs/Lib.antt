@@ -5,5 +5,6 @@ pub mod Fractions
 pub mod Meetings
 pub mod Multiples
 pub mod Order
+pub mod Products
 pub mod Signs
 pub mod TimeTexts

@@ -3,7 +3,7 @@
 use crate::ratio::Ratio;
 
 /// A start that was moved: a fraction with a sign. `negative` is true only below 0.
-#[derive(Clone, Copy, Debug, PartialEq, Eq)]
+#[derive(Clone, Copy)]
 pub struct Moved {
     pub start: Ratio,
     pub negative: bool,

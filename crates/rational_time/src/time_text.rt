@@ -7,7 +7,7 @@ use crate::fraction::reduced;
 use crate::ratio::Ratio;
 
 /// Why a text gives no time.
-#[derive(Clone, Copy, Debug, PartialEq, Eq)]
+#[derive(Clone, Copy, PartialEq, Eq)]
 pub enum RatioFault {
     /// The text is none of `n`, `n/d` and `n.f`.
     Malformed,

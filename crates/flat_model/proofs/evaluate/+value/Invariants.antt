@@ -10,10 +10,11 @@ invariant-chain_value-loop-i g l =
     let views = seen_from l.vantage (g.V.Lookup.views l.values) in
     chained (Is l.total) (drop l.i l.ops) (answers (drop l.i l.rest) views) ≡ chain l.ops (answers l.parts views)
 
-abbrev pub invariant-value_seen-loop-i : goal.invariant-value_seen-loop-i
-invariant-value_seen-loop-i g l =
+abbrev pub invariant-choice_value-loop-i : goal.invariant-choice_value-loop-i
+invariant-choice_value-loop-i g l =
     let views = seen_from l.vantage (g.V.Lookup.views l.values) in
-    chosen (answers (drop l.i l.condition-items) views) (answers (drop l.i l.branches) views) (value_of l.other views) ≡ value_of l.expr views
+    chosen (answers (drop l.i l.conditions) views) (answers (drop l.i l.branches) views) (value_of l.other views)
+    ≡ chosen (answers l.conditions views) (answers l.branches views) (value_of l.other views)
 
 abbrev pub decreases-value_seen : goal.decreases-value_seen
 decreases-value_seen g l = nodes l.expr.now
@@ -23,3 +24,6 @@ decreases-chain_value g l = 1 + all_nodes l.parts.now
 
 abbrev pub decreases-call_value : goal.decreases-call_value
 decreases-call_value g l = 1 + all_nodes l.parts.now
+
+abbrev pub decreases-choice_value : goal.decreases-choice_value
+decreases-choice_value g l = 1 + (all_nodes l.conditions.now + (all_nodes l.branches.now + nodes l.other.now))

@@ -30,3 +30,30 @@ returns c =
     let kept : c.note-2.new.tokens ≡ c.loop-at.tokens ++ noted (Some End) at at = search rules in
     let all : at ≡ length text = omega arith in
     subst (Divided text (mark_len text)) (sym kept) (c.loop-at.invariant.tokens _ (ended at all))
+
+pub overflow_add-at : goal.overflow_add-at
+overflow_add-at c =
+    let moves = next_within c.args.text.now c.loop-at.at c.in-Ok.next.1 c.in-Ok.next.0 c.loop-at-test.true c.in-Ok.ensures in
+    omega (arith, moves.1, c.requires)
+
+pub overflow_cast-at-in-loop-at : goal.overflow_cast-at-in-loop-at
+overflow_cast-at-in-loop-at c =
+    let moves = next_within c.args.text.now c.loop-at.at c.in-Ok.next.1 c.in-Ok.next.0 c.loop-at-test.true c.in-Ok.ensures in
+    omega (arith, moves.1, c.requires)
+
+pub overflow_add-at-in-loop-at : goal.overflow_add-at-in-loop-at
+overflow_add-at-in-loop-at c =
+    let moves = next_within c.args.text.now c.loop-at.at c.in-Ok.next.1 c.in-Ok.next.0 c.loop-at-test.true c.in-Ok.ensures in
+    omega (arith, moves.1, c.requires)
+
+pub next-requires : goal.next-requires
+next-requires c = c.loop-at-test.true
+
+pub overflow_cast-result : goal.overflow_cast-result
+overflow_cast-result c = omega (arith, c.loop-at-test.true, c.requires)
+
+pub overflow_cast-at : goal.overflow_cast-at
+overflow_cast-at c = omega (arith, c.loop-at-test.true, c.requires)
+
+pub overflow_cast-end : goal.overflow_cast-end
+overflow_cast-end c = omega (arith, c.loop-at.invariant.within, c.requires)

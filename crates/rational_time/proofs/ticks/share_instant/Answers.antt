@@ -30,3 +30,41 @@ returns c =
     c.args.r.num c.args.r.den c.args.q.num c.args.q.den c.units-other.result c.units-other_step.result c.wide_gcd-divisor.result c.abs_diff.result
     grain c.args.s.positive c.args.p.positive c.args.r.positive c.args.q.positive c.requires.first_rising c.requires.second_rising
     c.units-first.ensures c.units-step.ensures c.units-other.ensures c.units-other_step.ensures c.wide_gcd-divisor.ensures c.abs_diff.ensures
+
+pub common_multiple-requires-clause-first : goal.common_multiple-requires-clause-first
+common_multiple-requires-clause-first c = c.args.p.positive
+
+pub common_multiple-requires-clause-second : goal.common_multiple-requires-clause-second
+common_multiple-requires-clause-second c = c.args.s.positive
+
+pub common_multiple-requires-clause-within : goal.common_multiple-requires-clause-within
+common_multiple-requires-clause-within c =
+    let m = c.requires.grain in
+    record { multiple = m.multiple; positive = m.positive; below = m.below; divided = (m.divided.0, (m.divided.1.0, tt)) }
+
+pub common_multiple-requires-2-clause-first : goal.common_multiple-requires-2-clause-first
+common_multiple-requires-2-clause-first c = c.args.q.positive
+
+pub common_multiple-requires-2-clause-second : goal.common_multiple-requires-2-clause-second
+common_multiple-requires-2-clause-second c = c.args.r.positive
+
+pub common_multiple-requires-2-clause-within : goal.common_multiple-requires-2-clause-within
+common_multiple-requires-2-clause-within c =
+    let m = c.requires.grain in
+    record { multiple = m.multiple; positive = m.positive; below = m.below; divided = m.divided.1.1 }
+
+pub common_multiple-grain-requires-clause-first : goal.common_multiple-grain-requires-clause-first
+common_multiple-grain-requires-clause-first c = IsLcm-positive c.args.p.den c.args.s.den _ c.args.p.positive c.args.s.positive c.common_multiple.ensures
+
+pub common_multiple-grain-requires-clause-within : goal.common_multiple-grain-requires-clause-within
+common_multiple-grain-requires-clause-within c =
+    let m = c.requires.grain in
+    record {
+      multiple = m.multiple;
+      positive = m.positive;
+      below = m.below;
+      divided = (
+        c.common_multiple.ensures.least m.multiple m.divided.0 m.divided.1.0,
+        (c.common_multiple-2.ensures.least m.multiple m.divided.1.1.0 m.divided.1.1.1.0, tt),
+      );
+    }
