@@ -1,5 +1,6 @@
 //! The clock of the clause and its equations.
 ghost use Rattle.std.specs.Prelude.{◌≡◌, IfSome, map};
+ghost use Rattle.std.specs.Option.{option_and_then};
 ghost use Rattle.one_clock.specs.OneClock.{IsCount, AreCounters};
 ghost use Rattle.one_clock.specs.Form.{Tells};
 ghost use Rattle.one_clock.specs.Told as told;
@@ -57,6 +58,13 @@ pub fn rate_told(text: &[u8], expr: &TreeExpr) -> Option<(u32, u32)>
 }
 
 impl<'a> Teller<'a> {
+    /// The number of the name that stands on a left side.
+    fn name_told(&self, left: &TreeExpr) -> Result<u32, FormEnd>
+        ensures { Tells (option_and_then told.bare_name (told.expression_told self.now.text.now (told.number_among self.now.scope.now) left.now)) result }
+    {
+        bare_name(&self.expression_told(left)?).ok_or(FormEnd::NotBuilt)
+    }
+
     /// The equation that one of the clause stands for.
     fn equation_told(&self, equation: &TreeEq) -> Result<Equation, FormEnd>
         ensures { Tells (parts.equation_told self.now.text.now (told.number_among self.now.scope.now) equation.now) result }
@@ -64,8 +72,7 @@ impl<'a> Teller<'a> {
         let TreeEq::Equal(left, right) = equation else {
             return Err(FormEnd::NotBuilt);
         };
-        let left = self.expression_told(left)?;
-        let name = bare_name(&left).ok_or(FormEnd::NotBuilt)?;
+        let name = self.name_told(left)?;
         let right = self.expression_told(right)?;
         Ok(Equation::Valued {
             left: Expr::Read(name),

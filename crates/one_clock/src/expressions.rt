@@ -1,5 +1,6 @@
 //! The expressions that trees stand for.
-ghost use Rattle.std.specs.Prelude.{◌≡◌, map};
+ghost use Rattle.std.specs.Prelude.{◌≡◌, Some, map, option_map};
+ghost use Rattle.flat_model.specs.declared.expression.Expr.TheVariants as tree;
 ghost use Rattle.std.specs.Option.{option_and_then};
 ghost use Rattle.one_clock.specs.Form.{Tells};
 ghost use Rattle.one_clock.specs.Told as told;
@@ -44,10 +45,12 @@ fn call_of(name: &[u8], arguments: List<Expr>) -> Option<Expr>
     }
 }
 
-fn copied(alloc: Global, ops: &List<ChainOp>) -> Result<List<ChainOp>, FormEnd>
-    ensures { Tells (told.itself ops.now) result }
+/// A chain of parts that are told.
+fn chained(alloc: Global, parts: List<Expr>, ops: &List<ChainOp>) -> Result<Expr, FormEnd>
+    ensures { Tells (Some (tree.Chain parts ops.now)) result }
 {
-    Ok(List::from_vec(Vec::from_slice(alloc, ops.as_slice())?))
+    let ops = Vec::from_slice(alloc, ops.as_slice())?;
+    Ok(Expr::Chain(parts, List::from_vec(ops)))
 }
 
 /// What expressions are told with: the text and the numbers of its names.
@@ -78,6 +81,29 @@ impl<'a> Teller<'a> {
         Ok(found)
     }
 
+    /// The expression that a tree stands for, in a box of its own.
+    #[cycle(expression)]
+    fn boxed_told(&self, expr: &TreeExpr) -> Result<Boxed<Expr>, FormEnd>
+        ensures { Tells (told.expression_told self.now.text.now (told.number_among self.now.scope.now) expr.now) result }
+    {
+        Ok(Boxed::new(self.alloc, self.expression_told(expr)?)?)
+    }
+
+    /// The reading of a name without dots.
+    fn read_told(&self, path: &Path) -> Result<Expr, FormEnd>
+        ensures { Tells (option_map tree.Read (option_and_then (told.number_among self.now.scope.now) (told.spelling self.now.text.now path.now))) result }
+    {
+        Ok(Expr::Read(self.number(path).ok_or(FormEnd::NotBuilt)?))
+    }
+
+    /// A call of arguments that are told.
+    fn called(&self, path: &Path, arguments: List<Expr>) -> Result<Expr, FormEnd>
+        ensures { Tells (option_and_then (told.call_of arguments) (told.spelling self.now.text.now path.now)) result }
+    {
+        let name = spelling(self.text, path).ok_or(FormEnd::NotBuilt)?;
+        call_of(name, arguments).ok_or(FormEnd::NotBuilt)
+    }
+
     /// The expression that a tree stands for, node by node.
     #[cycle(expression)]
     #[tactic(auto, unfolding(crate::specs::Told::expression_told))]
@@ -86,36 +112,24 @@ impl<'a> Teller<'a> {
     {
         match &expr.node {
             TreeNode::Const(value) => Ok(Expr::Const(*value)),
-            TreeNode::Name(path) => Ok(Expr::Read(self.number(path).ok_or(FormEnd::NotBuilt)?)),
+            TreeNode::Name(path) => self.read_told(path),
             TreeNode::Call(path, arguments) => {
-                let arguments = self.all_told(arguments.as_slice())?;
-                let name = spelling(self.text, path).ok_or(FormEnd::NotBuilt)?;
-                call_of(name, arguments).ok_or(FormEnd::NotBuilt)
+                self.called(path, self.all_told(arguments.as_slice())?)
             }
             TreeNode::Chain(parts, ops) => {
-                let parts = self.all_told(parts.as_slice())?;
-                Ok(Expr::Chain(parts, copied(self.alloc, ops)?))
+                chained(self.alloc, self.all_told(parts.as_slice())?, ops)
             }
             TreeNode::Relation(rel, left, right) => {
-                let left = self.expression_told(left.get())?;
-                let right = self.expression_told(right.get())?;
-                let left = Boxed::new(self.alloc, left)?;
-                Ok(Expr::Relation(*rel, left, Boxed::new(self.alloc, right)?))
+                let left = self.boxed_told(left.get())?;
+                Ok(Expr::Relation(*rel, left, self.boxed_told(right.get())?))
             }
-            TreeNode::Neg(part) => {
-                let part = self.expression_told(part.get())?;
-                Ok(Expr::Neg(Boxed::new(self.alloc, part)?))
-            }
-            TreeNode::Not(part) => {
-                let part = self.expression_told(part.get())?;
-                Ok(Expr::Not(Boxed::new(self.alloc, part)?))
-            }
+            TreeNode::Neg(part) => Ok(Expr::Neg(self.boxed_told(part.get())?)),
+            TreeNode::Not(part) => Ok(Expr::Not(self.boxed_told(part.get())?)),
             TreeNode::Power(_, _) => Err(FormEnd::NotBuilt),
             TreeNode::If(conditions, branches, other) => {
                 let conditions = self.all_told(conditions.as_slice())?;
                 let branches = self.all_told(branches.as_slice())?;
-                let other = self.expression_told(other.get())?;
-                Ok(Expr::If(conditions, branches, Boxed::new(self.alloc, other)?))
+                Ok(Expr::If(conditions, branches, self.boxed_told(other.get())?))
             }
         }
     }
