@@ -7,3 +7,4 @@ pub mod Plainness
 pub mod Ordering
 pub mod Forms
 pub mod Models
+pub mod Tellings

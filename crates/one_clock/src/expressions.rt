@@ -1,8 +1,8 @@
 //! The expressions that trees stand for.
-ghost use Rattle.std.specs.Prelude.{◌≡◌, Some, map, option_map};
+ghost use Rattle.std.specs.Prelude.{◌≡◌, map, option_map};
 ghost use Rattle.flat_model.specs.declared.expression.Expr.TheVariants as tree;
 ghost use Rattle.std.specs.Option.{option_and_then};
-ghost use Rattle.one_clock.specs.Form.{Tells};
+ghost use Rattle.one_clock.specs.Form.{Tells, Follows, FollowsBoth, FollowsAll};
 ghost use Rattle.one_clock.specs.Told as told;
 
 use crate::form::FormEnd;
@@ -12,7 +12,7 @@ use flat_model::Expr;
 use mo_parser::{Path, TreeExpr, TreeNode};
 use sqlite_items::Boxed;
 use std::alloc::Global;
-use sync_values::{ChainOp, List};
+use sync_values::{ChainOp, List, Rel};
 
 /// A name that stands bare.
 pub fn bare_name(expr: &Expr) -> Option<u32>
@@ -45,12 +45,53 @@ fn call_of(name: &[u8], arguments: List<Expr>) -> Option<Expr>
     }
 }
 
-/// A chain of parts that are told.
-fn chained(alloc: Global, parts: List<Expr>, ops: &List<ChainOp>) -> Result<Expr, FormEnd>
-    ensures { Tells (Some (tree.Chain parts ops.now)) result }
+/// A chain, where its parts are told.
+fn chained(
+    alloc: Global,
+    parts: Result<List<Expr>, FormEnd>,
+    ops: &List<ChainOp>,
+) -> Result<Expr, FormEnd>
+    ensures { Follows (option_map (λ parts. tree.Chain parts ops.now)) parts result }
 {
+    let parts = parts?;
     let ops = Vec::from_slice(alloc, ops.as_slice())?;
     Ok(Expr::Chain(parts, List::from_vec(ops)))
+}
+
+/// A relation, where both sides are told.
+fn related(
+    rel: Rel,
+    left: Result<Boxed<Expr>, FormEnd>,
+    right: Result<Boxed<Expr>, FormEnd>,
+) -> Result<Expr, FormEnd>
+    ensures { FollowsBoth (told.with_both (tree.Relation rel)) left right result }
+{
+    Ok(Expr::Relation(rel, left?, right?))
+}
+
+/// A number with the other sign, where it is told.
+fn negated(part: Result<Boxed<Expr>, FormEnd>) -> Result<Expr, FormEnd>
+    ensures { Follows (option_map tree.Neg) part result }
+{
+    Ok(Expr::Neg(part?))
+}
+
+/// What is not, where it is told.
+fn inverted(part: Result<Boxed<Expr>, FormEnd>) -> Result<Expr, FormEnd>
+    ensures { Follows (option_map tree.Not) part result }
+{
+    Ok(Expr::Not(part?))
+}
+
+/// A choice, where conditions and branches are told.
+fn chosen(
+    conditions: Result<List<Expr>, FormEnd>,
+    branches: Result<List<Expr>, FormEnd>,
+    other: Result<Boxed<Expr>, FormEnd>,
+) -> Result<Expr, FormEnd>
+    ensures { FollowsAll told.chosen_of conditions branches other result }
+{
+    Ok(Expr::If(conditions?, branches?, other?))
 }
 
 /// What expressions are told with: the text and the numbers of its names.
@@ -96,10 +137,15 @@ impl<'a> Teller<'a> {
         Ok(Expr::Read(self.number(path).ok_or(FormEnd::NotBuilt)?))
     }
 
-    /// A call of arguments that are told.
-    fn called(&self, path: &Path, arguments: List<Expr>) -> Result<Expr, FormEnd>
-        ensures { Tells (option_and_then (told.call_of arguments) (told.spelling self.now.text.now path.now)) result }
+    /// A call, where its arguments are told.
+    fn called(
+        &self,
+        path: &Path,
+        arguments: Result<List<Expr>, FormEnd>,
+    ) -> Result<Expr, FormEnd>
+        ensures { Follows (option_and_then (λ arguments. option_and_then (told.call_of arguments) (told.spelling self.now.text.now path.now))) arguments result }
     {
+        let arguments = arguments?;
         let name = spelling(self.text, path).ok_or(FormEnd::NotBuilt)?;
         call_of(name, arguments).ok_or(FormEnd::NotBuilt)
     }
@@ -114,23 +160,24 @@ impl<'a> Teller<'a> {
             TreeNode::Const(value) => Ok(Expr::Const(*value)),
             TreeNode::Name(path) => self.read_told(path),
             TreeNode::Call(path, arguments) => {
-                self.called(path, self.all_told(arguments.as_slice())?)
+                self.called(path, self.all_told(arguments.as_slice()))
             }
             TreeNode::Chain(parts, ops) => {
-                chained(self.alloc, self.all_told(parts.as_slice())?, ops)
+                chained(self.alloc, self.all_told(parts.as_slice()), ops)
             }
-            TreeNode::Relation(rel, left, right) => {
-                let left = self.boxed_told(left.get())?;
-                Ok(Expr::Relation(*rel, left, self.boxed_told(right.get())?))
-            }
-            TreeNode::Neg(part) => Ok(Expr::Neg(self.boxed_told(part.get())?)),
-            TreeNode::Not(part) => Ok(Expr::Not(self.boxed_told(part.get())?)),
+            TreeNode::Relation(rel, left, right) => related(
+                *rel,
+                self.boxed_told(left.get()),
+                self.boxed_told(right.get()),
+            ),
+            TreeNode::Neg(part) => negated(self.boxed_told(part.get())),
+            TreeNode::Not(part) => inverted(self.boxed_told(part.get())),
             TreeNode::Power(_, _) => Err(FormEnd::NotBuilt),
-            TreeNode::If(conditions, branches, other) => {
-                let conditions = self.all_told(conditions.as_slice())?;
-                let branches = self.all_told(branches.as_slice())?;
-                Ok(Expr::If(conditions, branches, self.boxed_told(other.get())?))
-            }
+            TreeNode::If(conditions, branches, other) => chosen(
+                self.all_told(conditions.as_slice()),
+                self.all_told(branches.as_slice()),
+                self.boxed_told(other.get()),
+            ),
         }
     }
 }
