@@ -152,7 +152,6 @@ impl<'a> Teller<'a> {
 
     /// The expression that a tree stands for, node by node.
     #[cycle(expression)]
-    #[tactic(auto, unfolding(crate::specs::Told::expression_told))]
     pub fn expression_told(&self, expr: &TreeExpr) -> Result<Expr, FormEnd>
         ensures { Tells (told.expression_told self.now.text.now (told.number_among self.now.scope.now) expr.now) result }
     {

@@ -40,3 +40,15 @@ expression_told-returns-in-If t c =
     let other = rw c.get-in-If.ensures at c.boxed_told-in-If.ensures in
     rw (told-If c.args.self.now.text.now (number_among c.args.self.now.scope.now) c.args.expr.now c.in-If.conditions c.in-If.branches c.in-If.other c.in-If.is)
     (c.chosen.ensures _ _ _ conditions branches other)
+
+pub expression_told-returns-in-Const : goal.expression_told-returns-in-Const
+expression_told-returns-in-Const t c =
+    rw (told-Const c.args.self.now.text.now (number_among c.args.self.now.scope.now) c.args.expr.now c.in-Const.value c.in-Const.is)
+
+pub expression_told-returns-in-Name : goal.expression_told-returns-in-Name
+expression_told-returns-in-Name t c =
+    rw (told-Name c.args.self.now.text.now (number_among c.args.self.now.scope.now) c.args.expr.now c.in-Name.path c.in-Name.is) c.read_told.ensures
+
+pub expression_told-returns-in-Power : goal.expression_told-returns-in-Power
+expression_told-returns-in-Power t c =
+    rw (told-Power c.args.self.now.text.now (number_among c.args.self.now.scope.now) c.args.expr.now c.in-Power.field-0 c.in-Power.field-1 c.in-Power.is)
