@@ -36,12 +36,12 @@ fn all_read_only(marks: &[bool], parts: &[Expr]) -> bool
 
 /// Whether an expression is plain and reads at its tick only marked names.
 #[cycle(reading)]
-#[tactic(auto, using(crate::proofs::Readings::readings))]
 fn reads_only(marks: &[bool], expr: &Expr) -> bool
     ensures { result ≡ spec.reads_only (spec.is_marked marks.now) expr.now }
 {
     match expr {
-        Expr::Const(_) | Expr::Previous(_) => true,
+        Expr::Const(_) => true,
+        Expr::Previous(_) => true,
         Expr::Read(name) => is_marked(marks, *name),
         Expr::Chain(parts, _) | Expr::Apply(_, parts) => all_read_only(marks, parts.as_slice()),
         Expr::Relation(_, left, right) => {
@@ -49,15 +49,15 @@ fn reads_only(marks: &[bool], expr: &Expr) -> bool
         }
         Expr::Neg(part) | Expr::Not(part) => reads_only(marks, part.get()),
         Expr::If(conditions, branches, other) => {
-            all_read_only(marks, conditions.as_slice())
-                && all_read_only(marks, branches.as_slice())
-                && reads_only(marks, other.get())
+            let chosen = all_read_only(marks, conditions.as_slice())
+                && all_read_only(marks, branches.as_slice());
+            chosen && reads_only(marks, other.get())
         }
-        Expr::FirstTick(_)
-        | Expr::IntervalTimes(_, _)
-        | Expr::Hold(_)
-        | Expr::Convert(_, _)
-        | Expr::Sample(_, _) => false,
+        Expr::FirstTick(_) => false,
+        Expr::IntervalTimes(_, _) => false,
+        Expr::Hold(_) => false,
+        Expr::Convert(_, _) => false,
+        Expr::Sample(_, _) => false,
     }
 }
 

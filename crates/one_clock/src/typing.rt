@@ -128,7 +128,6 @@ fn are_of_type(names: &[FlatName], kind: NameKind, parts: &[Expr]) -> bool
 ///
 /// Source: MLS 3.6, chapter 3, "Operators and Expressions", in this project's profile.
 #[cycle(typing)]
-#[tactic(auto, using(crate::proofs::Types::types))]
 pub fn type_of(names: &[FlatName], expr: &Expr) -> Option<NameKind>
     ensures { result ≡ spec.type_of (spec.types_in names.now) expr.now }
 {
