@@ -11,6 +11,7 @@ use crate::form::FormEnd;
 use crate::spellings::spelling;
 use flat_model::{Equation, Expr};
 use mo_parser::{TreeEq, TreeExpr, TreeNode};
+use std::mem::drop;
 use sync_values::{List, Value};
 
 /// A literal from 1 to 2^31-1.
@@ -62,7 +63,10 @@ impl<'a> Teller<'a> {
     fn name_told(&self, left: &TreeExpr) -> Result<u32, FormEnd>
         ensures { Tells (option_and_then told.bare_name (told.expression_told self.now.text.now (told.number_among self.now.scope.now) left.now)) result }
     {
-        bare_name(&self.expression_told(left)?).ok_or(FormEnd::NotBuilt)
+        let left = self.expression_told(left)?;
+        let name = bare_name(&left);
+        drop(left);
+        name.ok_or(FormEnd::NotBuilt)
     }
 
     /// The equation that one of the clause stands for.
