@@ -6,12 +6,11 @@ ghost use Rattle.one_clock.specs.Form.{Tells};
 ghost use Rattle.one_clock.specs.Told as told;
 ghost use Rattle.one_clock.specs.Parts as parts;
 
-use crate::expressions::{Teller, bare_name};
+use crate::expressions::Teller;
 use crate::form::FormEnd;
 use crate::spellings::spelling;
 use flat_model::{Equation, Expr};
 use mo_parser::{TreeEq, TreeExpr, TreeNode};
-use std::mem::drop;
 use sync_values::{List, Value};
 
 /// A literal from 1 to 2^31-1.
@@ -59,14 +58,14 @@ pub fn rate_told(text: &[u8], expr: &TreeExpr) -> Option<(u32, u32)>
 }
 
 impl<'a> Teller<'a> {
-    /// The number of the name that stands on a left side.
-    fn name_told(&self, left: &TreeExpr) -> Result<u32, FormEnd>
-        ensures { Tells (option_and_then told.bare_name (told.expression_told self.now.text.now (told.number_among self.now.scope.now) left.now)) result }
+    /// The number of the name that a left side is.
+    fn name_told(&self, left: &TreeExpr) -> Option<u32>
+        ensures { result ≡ option_and_then told.bare_name (told.expression_told self.now.text.now (told.number_among self.now.scope.now) left.now) }
     {
-        let left = self.expression_told(left)?;
-        let name = bare_name(&left);
-        drop(left);
-        name.ok_or(FormEnd::NotBuilt)
+        match &left.node {
+            TreeNode::Name(path) => self.number(path),
+            _ => None,
+        }
     }
 
     /// The equation that one of the clause stands for.
@@ -76,7 +75,7 @@ impl<'a> Teller<'a> {
         let TreeEq::Equal(left, right) = equation else {
             return Err(FormEnd::NotBuilt);
         };
-        let name = self.name_told(left)?;
+        let name = self.name_told(left).ok_or(FormEnd::NotBuilt)?;
         let right = self.expression_told(right)?;
         Ok(Equation::Valued {
             left: Expr::Read(name),

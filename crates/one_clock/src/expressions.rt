@@ -15,7 +15,7 @@ use std::alloc::Global;
 use sync_values::{ChainOp, List, Rel};
 
 /// A name that stands bare.
-pub fn bare_name(expr: &Expr) -> Option<u32>
+fn bare_name(expr: &Expr) -> Option<u32>
     ensures { result ≡ told.bare_name expr.now }
 {
     match expr {
@@ -104,7 +104,7 @@ pub struct Teller<'a> {
 
 impl<'a> Teller<'a> {
     /// The number of a name without dots.
-    fn number(&self, path: &Path) -> Option<u32>
+    pub fn number(&self, path: &Path) -> Option<u32>
         ensures { result ≡ option_and_then (told.number_among self.now.scope.now) (told.spelling self.now.text.now path.now) }
     {
         self.scope.number(spelling(self.text, path)?)

@@ -5,9 +5,6 @@ use Rattle.one_clock.proofs.typing.+typing.Goals as goal
 pub type_of-returns-in_err-kind-in-Chain : goal.type_of-returns-in_err-kind-in-Chain
 type_of-returns-in_err-kind-in-Chain t c = grind (arith, types)
 
-pub type_of-returns-in_err-kind-in-Relation : goal.type_of-returns-in_err-kind-in-Relation
-type_of-returns-in_err-kind-in-Relation t c = grind (arith, types)
-
 pub type_of-returns-in_err-kind-in-If : goal.type_of-returns-in_err-kind-in-If
 type_of-returns-in_err-kind-in-If t c = grind (arith, types)
 
@@ -17,8 +14,8 @@ type_of-returns-in-Const t c = grind (arith, types)
 pub type_of-returns-in_ok-kind-in-Chain : goal.type_of-returns-in_ok-kind-in-Chain
 type_of-returns-in_ok-kind-in-Chain t c = grind (arith, types)
 
-pub type_of-returns-in_ok-kind-in-Relation : goal.type_of-returns-in_ok-kind-in-Relation
-type_of-returns-in_ok-kind-in-Relation t c = grind (arith, types)
+pub type_of-returns-in-Relation : goal.type_of-returns-in-Relation
+type_of-returns-in-Relation t c = grind (arith, types)
 
 pub type_of-returns-in-Neg : goal.type_of-returns-in-Neg
 type_of-returns-in-Neg t c = grind (arith, types)
