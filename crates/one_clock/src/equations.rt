@@ -32,8 +32,8 @@ fn rate_of(arguments: &[TreeExpr]) -> Option<(u32, u32)>
     ensures range { IfSome result (λ rate. AreCounters rate.0 rate.1) }
 {
     match arguments {
-        [counter] => Some((count(counter)?, 1)),
-        [counter, resolution] => Some((count(counter)?, count(resolution)?)),
+        [counter] => count(counter).zip(Some(1)),
+        [counter, resolution] => count(counter).zip(count(resolution)),
         _ => None,
     }
 }

@@ -1,5 +1,7 @@
+use Rattle.std.proofs.Common.{◌<◌, ◌∙◌, sym, length, arith}
+use Rattle.one_clock.proofs.All.{told_more}
 use Rattle.one_clock.proofs.Tellings.{told-Const, told-Name, told-Call, told-Chain, told-Relation, told-Neg, told-Not, told-Power, told-If}
-use Rattle.one_clock.specs.Told.{number_among}
+use Rattle.one_clock.specs.Told.{number_among, expression_told}
 use Rattle.one_clock.proofs.expressions.Teller.+expression.Goals as goal
 
 pub expression_told-returns-in-Call : goal.expression_told-returns-in-Call
@@ -52,3 +54,12 @@ expression_told-returns-in-Name t c =
 pub expression_told-returns-in-Power : goal.expression_told-returns-in-Power
 expression_told-returns-in-Power t c =
     rw (told-Power c.args.self.now.text.now (number_among c.args.self.now.scope.now) c.args.expr.now c.in-Power.field-0 c.in-Power.field-1 c.in-Power.is)
+
+pub all_told-loop-part-preserved : goal.all_told-loop-part-preserved
+all_told-loop-part-preserved t c =
+    let i = c.loop-part.part-index in
+    let within : i < length c.args.parts.now = omega arith in
+    let told = expression_told c.args.self.now.text.now (number_among c.args.self.now.scope.now) in
+    let pushed = c.in_ok-push.ensures.ok in
+    rw pushed (sym (told_more told c.args.parts.now i c.part-item.result c.in_ok-expression_told.field-0 c.loop-part.found within
+    c.part-item.is c.in_ok-expression_told.ensures) ∙ c.loop-part.invariant)
