@@ -1,4 +1,4 @@
-ghost use Rattle.std.specs.Prelude.{◌≡◌, ℕ, IfOk};
+ghost use Rattle.std.specs.Prelude.{◌≡◌, [], ◌≤◌, ℕ, IfOk, length};
 ghost use Rattle.flat_model.specs.declared.model.FlatModel.{FlatModel};
 ghost use Rattle.one_clock.specs.Form.{IsForm, IsTold};
 ghost use Rattle.one_clock.specs.Answers.{TellsClause, Finds, AreEquations, AreTaken, TellsModel};
@@ -9,7 +9,7 @@ use crate::equations::rate_told;
 use crate::expressions::Teller;
 use crate::form::{FormEnd, OneClock};
 use crate::order::are_ordered;
-use crate::scope::scope_of;
+use crate::scope::Scope;
 use flat_model::{ClockExpr, Equation, FlatModel, FlatName};
 use mo_parser::{ClassDef, ClassKind, Element, Tree, TreeEq, TreeExpr};
 use std::alloc::{AllocError, Global};
@@ -41,6 +41,23 @@ fn clauses_of(
     Ok(clauses)
 }
 
+/// The equations of the clause over these names, which an empty scope takes first.
+fn equations_in(
+    scope: &mut Scope,
+    alloc: Global,
+    text: &[u8],
+    names: &[FlatName],
+    inside: &[TreeEq],
+) -> Result<List<Equation>, FormEnd>
+    requires empty { scope.old ≡ [] }
+    requires few { length names.now ≤ 65536 }
+    ensures { Finds (AreEquations text.now names.now inside.now) result }
+{
+    scope.declare_all(alloc, names)?;
+    let teller = Teller { alloc, text, scope };
+    teller.equations_told(inside)
+}
+
 /// The equations of the clause over these names.
 fn equations_among(
     alloc: Global,
@@ -50,13 +67,11 @@ fn equations_among(
 ) -> Result<List<Equation>, FormEnd>
     ensures { Finds (AreEquations text.now names.now inside.now) result }
 {
-    let scope = scope_of(alloc, names)?;
-    let teller = Teller {
-        alloc,
-        text,
-        scope: &scope,
-    };
-    teller.equations_told(inside)
+    if names.len() > 65536 {
+        return Err(FormEnd::NotBuilt);
+    }
+    let mut scope = Scope::new(alloc);
+    equations_in(&mut scope, alloc, text, names, inside)
 }
 
 /// The equations of the clause over these names, in an order in which they can be taken.
