@@ -8,3 +8,4 @@ pub mod Ordering
 pub mod Forms
 pub mod Models
 pub mod Tellings
+pub mod Owned

@@ -1,7 +1,6 @@
 //! The clock of the clause and its equations.
-ghost use Rattle.std.specs.Prelude.{◌≡◌, IfSome, map};
+ghost use Rattle.std.specs.Prelude.{◌≡◌, map};
 ghost use Rattle.std.specs.Option.{option_and_then};
-ghost use Rattle.one_clock.specs.OneClock.{IsCount, AreCounters};
 ghost use Rattle.one_clock.specs.Form.{Tells};
 ghost use Rattle.one_clock.specs.Told as told;
 ghost use Rattle.one_clock.specs.Parts as parts;
@@ -15,8 +14,7 @@ use sync_values::{List, Value};
 
 /// A literal from 1 to 2^31-1.
 fn count(expr: &TreeExpr) -> Option<u32>
-    ensures value { result ≡ parts.count_told expr.now }
-    ensures range { IfSome result IsCount }
+    ensures { result ≡ parts.count_told expr.now }
 {
     match &expr.node {
         TreeNode::Const(Value::Int(number)) if 0 < *number && *number < 0x8000_0000 => Some(
@@ -28,8 +26,7 @@ fn count(expr: &TreeExpr) -> Option<u32>
 
 /// The counter of a clock and its resolution, which is 1 where it is not given.
 fn rate_of(arguments: &[TreeExpr]) -> Option<(u32, u32)>
-    ensures value { result ≡ parts.rate_of arguments.now }
-    ensures range { IfSome result (λ rate. AreCounters rate.0 rate.1) }
+    ensures { result ≡ parts.rate_of arguments.now }
 {
     match arguments {
         [counter] => count(counter).zip(Some(1)),
@@ -42,8 +39,7 @@ fn rate_of(arguments: &[TreeExpr]) -> Option<(u32, u32)>
 ///
 /// Source: MLS 3.6, chapter 16, "Clock Constructors".
 pub fn rate_told(text: &[u8], expr: &TreeExpr) -> Option<(u32, u32)>
-    ensures value { result ≡ parts.rate_told text.now expr.now }
-    ensures range { IfSome result (λ rate. AreCounters rate.0 rate.1) }
+    ensures { result ≡ parts.rate_told text.now expr.now }
 {
     match &expr.node {
         TreeNode::Call(path, arguments) => {

@@ -1,4 +1,4 @@
-use Rattle.std.proofs.Common.{length, ◌≡◌, Some, refl, sym, ◌∙◌, slice_get}
+use Rattle.std.proofs.Common.{length, ◌≡◌, true, false, Some, refl, sym, ◌∙◌, slice_get}
 use Rattle.std.proofs.lemmas.Option.{slice_get_read}
 use Rattle.one_clock.proofs.Ordering.{takes_sides}
 use Rattle.one_clock.proofs.order.takes.Goals.{then-is_marked-via-then-is_marked, then-is_marked-via-else-is_marked+then-not-has_type_of, then-is_marked-via-else-is_marked+else-not-has_type_of+then-not-reads_only}
@@ -13,14 +13,12 @@ returns-then-is_marked c = λ x right takes.
     slice_get_read c.args.names.now (length c.args.names.now) c.in-Some.number c.in-Some-get.name.now refl c.in-Some-get.ensures.lookup.3.0 c.in-Some-get.ensures.lookup.1 in
     let told = takes_sides c.args.names.now c.args.marks.now c.args.equation.now c.in-Some.number c.in-Some.right.now c.in-Some-get.name.now
     c.in-Some.ensures found x right takes in
-    let new = told.0 in
-    let reads = told.2 in
     elim c.then-is_marked.branch [
-      then-is_marked-via-then-is_marked w ↦ let marked = w.if-is_marked.ensures in cc (new, marked)
+      then-is_marked-via-then-is_marked w ↦ let both : true ≡ false = w.if-is_marked.ensures ∙ told.0 in absurd (cc both)
     | then-is_marked-via-else-is_marked+then-not-has_type_of w ↦
-      let typed = w.has_type_of.ensures.1 told.1 in let other = w.if-not-has_type_of.true in cc (typed, other)
+      let both : true ≡ false = sym (w.has_type_of.ensures.1 told.1) ∙ w.if-not-has_type_of.true in absurd (cc both)
     | then-is_marked-via-else-is_marked+else-not-has_type_of+then-not-reads_only w ↦
-      let read = w.reads_only.ensures in let other = w.if-not-reads_only.true in cc (read, reads, other)
+      let both : true ≡ false = sym (w.reads_only.ensures ∙ told.2) ∙ w.if-not-reads_only.true in absurd (cc both)
     ]
 
 pub returns : goal.returns

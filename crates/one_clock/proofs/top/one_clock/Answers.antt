@@ -3,6 +3,7 @@ use Rattle.one_clock.specs.declared.form.FormEnd.TheVariants.{NotBuilt}
 use Rattle.one_clock.specs.Answers.{TellsClause, TellsModel}
 use Rattle.one_clock.specs.Form.{IsTold}
 use Rattle.one_clock.proofs.Forms.{one_element, no_form, has_form}
+use Rattle.one_clock.proofs.Owned.{rate_counts}
 use Rattle.one_clock.proofs.top.one_clock.Goals as goal
 
 pub returns-in_err-model-clause-not_built : goal.returns-in_err-model-clause-not_built
@@ -31,4 +32,9 @@ returns-clause-ok c =
     let model = c.in_ok-model.model in
     let told = subst (λ e. IsTold text e inside model) c.as_slice-elements.ensures c.in_ok-model.ensures.0 in
     has_form text c.args.tree.now class c.in_ok-clock.clock.now inside only clause c.in_ok-counter.counter c.in_ok-counter.resolution
-    (sym c.rate_told.ensures.value ∙ rated) model told c.in_ok-model.ensures.1
+    (sym c.rate_told.ensures ∙ rated) model told c.in_ok-model.ensures.1
+
+pub model_of-requires : goal.model_of-requires
+model_of-requires c =
+    let rated : c.rate_told.result ≡ Some (c.in_ok-counter.counter, c.in_ok-counter.resolution) = search rules in
+    rate_counts c.args.text.now c.in_ok-clock.clock.now c.in_ok-counter.counter c.in_ok-counter.resolution (sym c.rate_told.ensures ∙ rated)
