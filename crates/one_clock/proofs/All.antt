@@ -1,5 +1,5 @@
 -- Lists of what parts stand for.
-use Rattle.std.proofs.Common.{◌≡◌, refl, ap, ◌∙◌, sym, subst, ℕ, zero, suc, ◌+◌, ◌<◌, List, [], ◌∷◌, ◌++◌, map, length, get_or, slice_get, drop, add-one, Option, Some, None, append_assoc}
+use Rattle.std.proofs.Common.{◌≡◌, refl, ap, ◌∙◌, sym, ℕ, suc, ◌+◌, ◌<◌, List, [], ◌∷◌, ◌++◌, map, length, get_or, drop, add-one, Option, Some, None, append_assoc}
 use Rattle.std.proofs.Math.Seq.{drop-cons}
 use Rattle.one_clock.specs.Told.{prepended, all_told}
 

@@ -1,11 +1,12 @@
 -- The equations of a clause over names, and the model of elements and of these.
-use Rattle.std.proofs.Common.{◌≡◌, ap, sym, subst, ◌∙◌, ℕ, List, map, Some, None, Result, Ok, Err}
+use Rattle.std.proofs.Common.{◌≡◌, ap, sym, subst, ◌∙◌, ℕ, List, map, Some, Result, Ok, Err}
 use Rattle.mo_parser.specs.declared.tree.Element.{Element}
 use Rattle.mo_parser.specs.declared.tree.TreeEq.{TreeEq}
 use Rattle.flat_model.specs.declared.clock.ClockExpr.{ClockExpr}
 use Rattle.flat_model.specs.declared.model.FlatModel.{FlatModel}
 use Rattle.flat_model.specs.declared.model.FlatName.{FlatName}
 use Rattle.flat_model.specs.declared.equation.Equation.{Equation}
+use Rattle.std.specs.Result.{IsErrAnd}
 use Rattle.one_clock.specs.Told.{all_told, number_among}
 use Rattle.one_clock.specs.Parts.{name_told, equation_told}
 use Rattle.one_clock.specs.Scopes.{texts, CanBeDeclared}
@@ -14,6 +15,11 @@ use Rattle.one_clock.specs.declared.form.FormEnd.TheVariants.{NotBuilt, NoMemory
 use Rattle.one_clock.specs.Answers.{Finds, AreEquations, AreTaken, TellsModel}
 use Rattle.one_clock.specs.Form.{Tells, IsTold}
 use Rattle.one_clock.specs.OneClock.{AreCounters, AreOwn, IsOneClock, clauses_of}
+
+-- an end that is handed on
+pub handed_on : {A : Type 0} (answer : Result A FormEnd) (end : FormEnd) → IsErrAnd answer (λ e. e ≡ end) → answer ≡ Err end
+handed_on (Ok x) end is = absurd is
+handed_on (Err e) end is = ap Err is
 
 -- the equations that the names' scope tells
 pub among : (text : List ℕ) (names : List FlatName) (inside : List TreeEq) (scope : List (List ℕ)) → scope ≡ texts names → CanBeDeclared names

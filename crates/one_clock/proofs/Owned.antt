@@ -1,13 +1,11 @@
 -- What is told of names is of one's own, and what is told of a rate are counters.
-use Rattle.std.proofs.Common.{◌≡◌, refl, subst, ℕ, zero, suc, pos, negsuc, ◌<◌, ◌≤◌, ◌^◌, nat_le, nat_lt, Bool, true, false, not, ◌&&◌, List, [], ◌∷◌, length, codes, map, slice_get, Option, Some, None, Result, Ok, Err, ℤ, option_map, if◌then◌else◌, leb-true, ltb-true, arith}
+use Rattle.std.proofs.Common.{◌≡◌, refl, subst, ℕ, zero, suc, pos, negsuc, ◌^◌, nat_lt, Bool, true, false, ◌&&◌, List, [], ◌∷◌, codes, map, Option, Some, None, Result, Ok, Err, ℤ, option_map, if◌then◌else◌, leb-true, ltb-true, arith}
 use Rattle.std.specs.Option.{option_and_then}
 use Rattle.std.specs.Str.{bytes_eq}
-use Rattle.sync_values.specs.Arithmetic.{fitted}
 use Rattle.sync_values.specs.declared.value.Fail.{Fail}
 use Rattle.sync_values.specs.declared.value.Value.{Value}
 use Rattle.sync_values.specs.declared.value.Value.TheVariants as value
 use Rattle.mo_parser.specs.declared.tree.Arg.{Arg}
-use Rattle.mo_parser.specs.declared.tree.Arg.TheOpen.{Arg-F}
 use Rattle.mo_parser.specs.declared.tree.Element.{Element}
 use Rattle.mo_parser.specs.declared.tree.TreeExpr.{TreeExpr}
 use Rattle.mo_parser.specs.declared.tree.TreeNode.TheOpen.{TreeNode-F}
@@ -16,7 +14,7 @@ use Rattle.flat_model.specs.declared.model.NameKind.{NameKind}
 use Rattle.flat_model.specs.declared.model.NameKind.TheVariants as kind
 use Rattle.flat_model.specs.Assignment.{IsOfKind}
 use Rattle.one_clock.specs.Told.{spelled, spelling, all_told, prepended}
-use Rattle.one_clock.specs.Parts.{Node, node_of, arg_of, literal_by, settled_start, negative_by, start_by, start_without, start_bound, start_named, start_in, start_of, is_bare, can_name, name_with, name_of_type, kind_of_element, name_told, Rate, rate, count_by, count_told, rate_from, rate_of, rate_called, rate_by, rate_told}
+use Rattle.one_clock.specs.Parts.{Node, node_of, arg_of, literal_by, settled_start, negative_by, start_by, start_without, start_bound, start_named, start_of, is_bare, can_name, name_with, name_of_type, kind_of_element, name_told, Rate, rate, count_by, count_told, rate_from, rate_of, rate_called, rate_by, rate_told}
 use Rattle.one_clock.specs.OneClock.{IsCount, AreCounters, IsOwnName, AreOwn}
 
 of_kind : (type : NameKind) (v w : Value) → IsOfKind type v → Some v ≡ Some w → IsOfKind type w
