@@ -138,11 +138,7 @@ impl<'a> Teller<'a> {
     }
 
     /// A call, where its arguments are told.
-    fn called(
-        &self,
-        path: &Path,
-        arguments: Result<List<Expr>, FormEnd>,
-    ) -> Result<Expr, FormEnd>
+    fn called(&self, path: &Path, arguments: Result<List<Expr>, FormEnd>) -> Result<Expr, FormEnd>
         ensures { Follows (option_and_then (λ arguments. option_and_then (told.call_of arguments) (told.spelling self.now.text.now path.now))) arguments result }
     {
         let arguments = arguments?;

@@ -4,11 +4,10 @@ ghost use Rattle.one_clock.specs.OneClock.{AreOrdered};
 ghost use Rattle.std.specs.List.{list_all};
 ghost use Rattle.flat_model.specs.Typing.{types_in, type_of as type_of_expr};
 ghost use Rattle.one_clock.specs.Reads as spec;
-ghost use Rattle.one_clock.specs.Steps as steps;
 ghost use Rattle.one_clock.specs.Steps.{Sides, Marks};
 
 use crate::typing::type_of;
-use flat_model::{Equation, Expr, FlatName, NameKind};
+use flat_model::{Equation, Expr, FlatName};
 use std::alloc::{AllocError, Global};
 
 /// Whether a name is marked.
@@ -61,23 +60,12 @@ fn reads_only(marks: &[bool], expr: &Expr) -> bool
     }
 }
 
-fn same_kind(a: NameKind, b: NameKind) -> bool
-    ensures { result ≡ steps.same_kind a b }
-{
-    match (a, b) {
-        (NameKind::Integer, NameKind::Integer)
-        | (NameKind::Boolean, NameKind::Boolean)
-        | (NameKind::Clock, NameKind::Clock) => true,
-        _ => false,
-    }
-}
-
 /// Whether an expression has the type of a name.
 fn has_type_of(names: &[FlatName], name: &FlatName, expr: &Expr) -> bool
     ensures { IsTrue result ↔ (type_of_expr (types_in names.now) expr.now ≡ Some name.now.kind) }
 {
     match type_of(names, expr) {
-        Some(kind) => same_kind(kind, name.kind),
+        Some(kind) => kind == name.kind,
         None => false,
     }
 }
