@@ -1,5 +1,5 @@
 -- Lists of what parts stand for.
-use Rattle.std.proofs.Common.{◌≡◌, refl, ap, ◌∙◌, sym, subst, ℕ, zero, suc, ◌+◌, ◌<◌, List, [], ◌∷◌, ◌++◌, map, length, get_or, slice_get, drop, add-one, Option, Some, None, append_assoc}
+use Rattle.std.proofs.Common.{◌≡◌, refl, ap, ◌∙◌, sym, ℕ, suc, ◌+◌, ◌<◌, List, [], ◌∷◌, ◌++◌, map, length, get_or, drop, add-one, Option, Some, None, append_assoc}
 use Rattle.std.proofs.Math.Seq.{drop-cons}
 use Rattle.one_clock.specs.Told.{prepended, all_told}
 
@@ -21,11 +21,3 @@ module _ {A B : Type 0} (f : A → Option B) where
       → behind found (all_told (map f (drop i xs))) ≡ behind (found ++ y ∷ []) (all_told (map f (drop (i + 1) xs)))
   told_more xs i x y found within is told =
       let e = split_at xs i x within is in rw (add-one, e, told) (behind-more found y (all_told (map f (drop (suc i) xs))))
-
--- what holds of each element and of one more
-pub each_more : {A : Type 0} (P : A → Type 0) (xs : List A) (y : A) → ((k : ℕ) (x : A) → slice_get xs k ≡ Some x → P x) → P y
-    → (k : ℕ) (x : A) → slice_get (xs ++ y ∷ []) k ≡ Some x → P x
-each_more P [] y all this zero x is = let same : y ≡ x = cc is in subst P same this
-each_more P [] y all this (suc k) x is = absurd (cc is)
-each_more P (z ∷ xs) y all this zero x is = all zero x is
-each_more P (z ∷ xs) y all this (suc k) x is = each_more P xs y (λ j w h. all (suc j) w h) this k x is

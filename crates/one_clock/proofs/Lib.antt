@@ -5,5 +5,7 @@ pub mod Types
 pub mod Readings
 pub mod Plainness
 pub mod Ordering
-pub mod Models
 pub mod Forms
+pub mod Models
+pub mod Tellings
+pub mod Owned

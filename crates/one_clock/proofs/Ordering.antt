@@ -13,7 +13,8 @@ use Rattle.flat_model.specs.declared.expression.Expr.TheVariants.{Read, rolls-Re
 use Rattle.flat_model.specs.declared.clock.ClockExpr.TheOpen.{Expr-F}
 use Rattle.flat_model.specs.declared.clock.ClockExpr.TheViews.{out-roll-Expr}
 use Rattle.one_clock.specs.Told.{bare_by, bare_name}
-use Rattle.one_clock.specs.Reads.{is_marked, all_pass}
+use Rattle.flat_model.specs.Typing.{types_in, type_of}
+use Rattle.one_clock.specs.Reads.{is_marked, reads_only, all_pass}
 use Rattle.one_clock.specs.Steps.{Takes}
 use Rattle.one_clock.specs.OneClock.{IsEquation, Reaches, IsRightSide, AreOrdered}
 use Rattle.one_clock.proofs.Distinct.{below_or_at}
@@ -36,6 +37,20 @@ same_name : (x y : ℕ) (a b : Expr) (equation : Equation) → equation ≡ Valu
 same_name x y a b equation one other =
     let reads : Read x ≡ Read y = cc (one, other) in
     let some : Some x ≡ Some y = sym (bare_name-Read x) ∙ ap bare_name reads ∙ bare_name-Read y in cc some
+
+-- what it is to take an equation, told of its own sides
+pub takes_sides : (names : List FlatName) (marks : List Bool) (equation : Equation) (number : ℕ) (side : Expr) (name : FlatName)
+    → equation ≡ Valued (Read number) side (Some 0) → slice_get names number ≡ Some name → (x : ℕ) (right : Expr) → Takes names marks equation x right
+    → (is_marked marks number ≡ false) × (type_of (types_in names) side ≡ Some name.kind) × (reads_only (is_marked marks) side ≡ true)
+takes_sides names marks equation number side name is found x right takes =
+    let x_is : x ≡ number = same_name x number right side equation takes.equation_is is in
+    let side_is : right ≡ side = let e = takes.equation_is in cc (e, is) in
+    let here : slice_get names number ≡ Some takes.name = subst (λ z. slice_get names z ≡ Some takes.name) x_is takes.found in
+    let name_is : takes.name ≡ name = cc (here, found) in (
+      subst (λ z. is_marked marks z ≡ false) x_is takes.new,
+      subst (λ e. type_of (types_in names) e ≡ Some name.kind) side_is (takes.typed ∙ ap (λ n. Some n.kind) name_is),
+      subst (λ e. reads_only (is_marked marks) e ≡ true) side_is takes.reads,
+    )
 
 module _ (marks : List Bool) (x : ℕ) (within : x < length marks) where
   marked_now : is_marked (set marks x true) x ≡ true

@@ -41,3 +41,14 @@ abbrev pub Tells : {A : Type 0} → Option A → Result A FormEnd → Type 0
 Tells told (Ok x) = told ≡ Some x
 Tells told (Err NotBuilt) = told ≡ None
 Tells told (Err NoMemory) = Unit {0}
+
+-- an answer follows from that of a part, of two, or of three
+abbrev pub Follows : {A B : Type 0} → (Option A → Option B) → Result A FormEnd → Result B FormEnd → Type 0
+Follows {A} step part answer = (told : Option A) → Tells told part → Tells (step told) answer
+
+abbrev pub FollowsBoth : {A B C : Type 0} → (Option A → Option B → Option C) → Result A FormEnd → Result B FormEnd → Result C FormEnd → Type 0
+FollowsBoth {A} {B} step first second answer = (a : Option A) (b : Option B) → Tells a first → Tells b second → Tells (step a b) answer
+
+abbrev pub FollowsAll : {A B C D : Type 0} → (Option A → Option B → Option C → Option D) → Result A FormEnd → Result B FormEnd → Result C FormEnd → Result D FormEnd → Type 0
+FollowsAll {A} {B} {C} step first second third answer =
+    (a : Option A) (b : Option B) (c : Option C) → Tells a first → Tells b second → Tells c third → Tells (step a b c) answer

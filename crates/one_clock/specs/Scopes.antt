@@ -19,11 +19,12 @@ abbrev pub Declares : List (List ℕ) → List ℕ → Bool → List (List ℕ) 
 Declares old name true new = (is_declared old name ≡ false) × (new ≡ old ++ name ∷ [])
 Declares old name false new = is_declared old name ≡ true
 
--- the scope of names, or `NotBuilt` where they are too many or two are equal
+-- the names are added to an empty scope, or `NotBuilt` where two are equal
+abbrev pub AreAdded : {A : Type 0} → List FlatName → List (List ℕ) → Result A FormEnd → Type 0
+AreAdded names scope (Ok done) = (scope ≡ texts names) × AreDistinct names
+AreAdded names scope (Err NotBuilt) = AreDistinct names → ⊥
+AreAdded names scope (Err NoMemory) = Unit {0}
+
+-- names can be declared, since they are few enough and no two are equal
 abbrev pub CanBeDeclared : List FlatName → Type 0
 CanBeDeclared names = AreDistinct names × (length names ≤ 65536)
-
-abbrev pub AreDeclared : List FlatName → Result (List (List ℕ)) FormEnd → Type 0
-AreDeclared names (Ok scope) = (scope ≡ texts names) × CanBeDeclared names
-AreDeclared names (Err NotBuilt) = CanBeDeclared names → ⊥
-AreDeclared names (Err NoMemory) = Unit {0}

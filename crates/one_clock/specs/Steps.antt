@@ -2,20 +2,12 @@
 use Rattle.std.specs.Prelude.{◌≡◌, ℕ, Bool, true, false, List, Option, Some, None, slice_get, slice_set}
 use Rattle.std.specs.Borrow.{Bor}
 use Rattle.flat_model.specs.declared.model.FlatName.{FlatName}
-use Rattle.flat_model.specs.declared.model.NameKind.{NameKind}
-use Rattle.flat_model.specs.declared.model.NameKind.TheVariants as kind
 use Rattle.flat_model.specs.declared.equation.Equation.{Equation}
 use Rattle.flat_model.specs.declared.equation.Equation.TheVariants.{Valued}
 use Rattle.flat_model.specs.declared.expression.Expr.{Expr}
 use Rattle.flat_model.specs.declared.expression.Expr.TheVariants.{Read}
 use Rattle.flat_model.specs.Typing.{types_in, type_of}
 use Rattle.one_clock.specs.Reads.{reads_only, is_marked}
-
-abbrev pub same_kind : NameKind → NameKind → Bool
-same_kind kind.Integer kind.Integer = true
-same_kind kind.Boolean kind.Boolean = true
-same_kind kind.Clock kind.Clock = true
-same_kind _ _ = false
 
 -- the sides of `name = expression` in the one clause, or any other equation
 abbrev pub Sides : Equation → Option (ℕ × Bor Expr) → Type 0

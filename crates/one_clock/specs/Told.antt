@@ -55,10 +55,6 @@ function_called name =
     if bytes_eq name (codes "min") then Some Min else
     if bytes_eq name (codes "max") then Some Max else None
 
--- a part that stands for itself
-abbrev pub itself : {A : Type 0} → A → Option A
-itself x = Some x
-
 -- a name that stands bare
 abbrev pub bare_by : Expr-F ClockExpr Expr → Option ℕ
 bare_by (Expr-F.Read x) = Some x

@@ -1,8 +1,6 @@
 //! The names that elements declare.
-ghost use Rattle.std.specs.Prelude.{◌≡◌, IfOk, IfSome, map};
-ghost use Rattle.flat_model.specs.Assignment.{IsOfKind};
+ghost use Rattle.std.specs.Prelude.{◌≡◌, map};
 ghost use Rattle.one_clock.specs.Form.{Tells};
-ghost use Rattle.one_clock.specs.OneClock.{IsOwnName, AreOwn};
 ghost use Rattle.one_clock.specs.Told as told;
 ghost use Rattle.one_clock.specs.Parts as parts;
 
@@ -15,8 +13,7 @@ use sync_values::{List, Text, Value, neg};
 
 /// A literal of the type.
 fn literal(kind: NameKind, value: Value) -> Option<Value>
-    ensures value { result ≡ parts.literal_by kind value }
-    ensures kind { IfSome result (IsOfKind kind) }
+    ensures { result ≡ parts.literal_by kind value }
 {
     match (kind, value) {
         (NameKind::Integer, Value::Int(_)) | (NameKind::Boolean, Value::Bool(_)) => Some(value),
@@ -26,8 +23,7 @@ fn literal(kind: NameKind, value: Value) -> Option<Value>
 
 /// A literal of the type with a minus before it.
 fn negative(kind: NameKind, part: &TreeExpr) -> Option<Value>
-    ensures value { result ≡ parts.negative_by kind (parts.node_of part.now) }
-    ensures kind { IfSome result (IsOfKind kind) }
+    ensures { result ≡ parts.negative_by kind (parts.node_of part.now) }
 {
     match (kind, &part.node) {
         (NameKind::Integer, TreeNode::Const(Value::Int(number))) => {
@@ -40,8 +36,7 @@ fn negative(kind: NameKind, part: &TreeExpr) -> Option<Value>
 
 /// A literal of the type; that of an Integer may have a sign.
 fn signed_literal(kind: NameKind, expr: &TreeExpr) -> Option<Value>
-    ensures value { result ≡ parts.start_by kind (parts.node_of expr.now) }
-    ensures kind { IfSome result (IsOfKind kind) }
+    ensures { result ≡ parts.start_by kind (parts.node_of expr.now) }
 {
     match &expr.node {
         TreeNode::Const(value) => literal(kind, *value),
@@ -52,8 +47,7 @@ fn signed_literal(kind: NameKind, expr: &TreeExpr) -> Option<Value>
 
 /// The start where none is given.
 fn start_without(kind: NameKind) -> Option<Value>
-    ensures value { result ≡ parts.start_without kind }
-    ensures kind { IfSome result (IsOfKind kind) }
+    ensures { result ≡ parts.start_without kind }
 {
     match kind {
         NameKind::Integer => Some(Value::Int(0)),
@@ -64,8 +58,7 @@ fn start_without(kind: NameKind) -> Option<Value>
 
 /// The start that an argument of a modification gives.
 fn start_in(text: &[u8], kind: NameKind, arg: &Arg) -> Option<Value>
-    ensures value { result ≡ parts.start_in text.now kind (parts.arg_of arg.now) }
-    ensures kind { IfSome result (IsOfKind kind) }
+    ensures { result ≡ parts.start_in text.now kind (parts.arg_of arg.now) }
 {
     let name = spelling(text, &arg.name)?;
     if name != b"start".as_slice() || !arg.args.is_empty() {
@@ -79,8 +72,7 @@ fn start_in(text: &[u8], kind: NameKind, arg: &Arg) -> Option<Value>
 
 /// The start that the modification of an element gives, or 0 or false.
 fn start_of(text: &[u8], kind: NameKind, args: &[Arg]) -> Option<Value>
-    ensures value { result ≡ parts.start_of text.now kind args.now }
-    ensures kind { IfSome result (IsOfKind kind) }
+    ensures { result ≡ parts.start_of text.now kind args.now }
 {
     match args {
         [] => start_without(kind),
@@ -115,8 +107,7 @@ fn kind_of_element(text: &[u8], element: &Element) -> Option<NameKind>
 
 /// The name that an element declares, with its type and start.
 fn name_told(alloc: Global, text: &[u8], element: &Element) -> Result<FlatName, FormEnd>
-    ensures told { Tells (parts.name_told text.now element.now) result }
-    ensures own { IfOk result IsOwnName }
+    ensures { Tells (parts.name_told text.now element.now) result }
 {
     let name = spelled(text, element.name);
     if !is_bare(element) || !can_name(name) {
@@ -139,8 +130,7 @@ pub fn names_told(
     text: &[u8],
     elements: &[Element],
 ) -> Result<List<FlatName>, FormEnd>
-    ensures told { Tells (told.all_told (map (parts.name_told text.now) elements.now)) result }
-    ensures own { IfOk result AreOwn }
+    ensures { Tells (told.all_told (map (parts.name_told text.now) elements.now)) result }
 {
     let mut names = List::new(alloc);
     for element in elements {

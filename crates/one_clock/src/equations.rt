@@ -1,11 +1,11 @@
 //! The clock of the clause and its equations.
-ghost use Rattle.std.specs.Prelude.{◌≡◌, IfSome, map};
-ghost use Rattle.one_clock.specs.OneClock.{IsCount, AreCounters};
+ghost use Rattle.std.specs.Prelude.{◌≡◌, map};
+ghost use Rattle.std.specs.Option.{option_and_then};
 ghost use Rattle.one_clock.specs.Form.{Tells};
 ghost use Rattle.one_clock.specs.Told as told;
 ghost use Rattle.one_clock.specs.Parts as parts;
 
-use crate::expressions::{Teller, bare_name};
+use crate::expressions::Teller;
 use crate::form::FormEnd;
 use crate::spellings::spelling;
 use flat_model::{Equation, Expr};
@@ -14,8 +14,7 @@ use sync_values::{List, Value};
 
 /// A literal from 1 to 2^31-1.
 fn count(expr: &TreeExpr) -> Option<u32>
-    ensures value { result ≡ parts.count_told expr.now }
-    ensures range { IfSome result IsCount }
+    ensures { result ≡ parts.count_told expr.now }
 {
     match &expr.node {
         TreeNode::Const(Value::Int(number)) if 0 < *number && *number < 0x8000_0000 => Some(
@@ -27,12 +26,11 @@ fn count(expr: &TreeExpr) -> Option<u32>
 
 /// The counter of a clock and its resolution, which is 1 where it is not given.
 fn rate_of(arguments: &[TreeExpr]) -> Option<(u32, u32)>
-    ensures value { result ≡ parts.rate_of arguments.now }
-    ensures range { IfSome result (λ rate. AreCounters rate.0 rate.1) }
+    ensures { result ≡ parts.rate_of arguments.now }
 {
     match arguments {
-        [counter] => Some((count(counter)?, 1)),
-        [counter, resolution] => Some((count(counter)?, count(resolution)?)),
+        [counter] => count(counter).zip(Some(1)),
+        [counter, resolution] => count(counter).zip(count(resolution)),
         _ => None,
     }
 }
@@ -41,8 +39,7 @@ fn rate_of(arguments: &[TreeExpr]) -> Option<(u32, u32)>
 ///
 /// Source: MLS 3.6, chapter 16, "Clock Constructors".
 pub fn rate_told(text: &[u8], expr: &TreeExpr) -> Option<(u32, u32)>
-    ensures value { result ≡ parts.rate_told text.now expr.now }
-    ensures range { IfSome result (λ rate. AreCounters rate.0 rate.1) }
+    ensures { result ≡ parts.rate_told text.now expr.now }
 {
     match &expr.node {
         TreeNode::Call(path, arguments) => {
@@ -57,6 +54,16 @@ pub fn rate_told(text: &[u8], expr: &TreeExpr) -> Option<(u32, u32)>
 }
 
 impl<'a> Teller<'a> {
+    /// The number of the name that a left side is.
+    fn name_told(&self, left: &TreeExpr) -> Option<u32>
+        ensures { result ≡ option_and_then told.bare_name (told.expression_told self.now.text.now (told.number_among self.now.scope.now) left.now) }
+    {
+        match &left.node {
+            TreeNode::Name(path) => self.number(path),
+            _ => None,
+        }
+    }
+
     /// The equation that one of the clause stands for.
     fn equation_told(&self, equation: &TreeEq) -> Result<Equation, FormEnd>
         ensures { Tells (parts.equation_told self.now.text.now (told.number_among self.now.scope.now) equation.now) result }
@@ -64,8 +71,7 @@ impl<'a> Teller<'a> {
         let TreeEq::Equal(left, right) = equation else {
             return Err(FormEnd::NotBuilt);
         };
-        let left = self.expression_told(left)?;
-        let name = bare_name(&left).ok_or(FormEnd::NotBuilt)?;
+        let name = self.name_told(left).ok_or(FormEnd::NotBuilt)?;
         let right = self.expression_told(right)?;
         Ok(Equation::Valued {
             left: Expr::Read(name),

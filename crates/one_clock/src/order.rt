@@ -4,11 +4,10 @@ ghost use Rattle.one_clock.specs.OneClock.{AreOrdered};
 ghost use Rattle.std.specs.List.{list_all};
 ghost use Rattle.flat_model.specs.Typing.{types_in, type_of as type_of_expr};
 ghost use Rattle.one_clock.specs.Reads as spec;
-ghost use Rattle.one_clock.specs.Steps as steps;
 ghost use Rattle.one_clock.specs.Steps.{Sides, Marks};
 
 use crate::typing::type_of;
-use flat_model::{Equation, Expr, FlatName, NameKind};
+use flat_model::{Equation, Expr, FlatName};
 use std::alloc::{AllocError, Global};
 
 /// Whether a name is marked.
@@ -36,12 +35,12 @@ fn all_read_only(marks: &[bool], parts: &[Expr]) -> bool
 
 /// Whether an expression is plain and reads at its tick only marked names.
 #[cycle(reading)]
-#[tactic(auto, using(crate::proofs::Readings::readings))]
 fn reads_only(marks: &[bool], expr: &Expr) -> bool
     ensures { result ≡ spec.reads_only (spec.is_marked marks.now) expr.now }
 {
     match expr {
-        Expr::Const(_) | Expr::Previous(_) => true,
+        Expr::Const(_) => true,
+        Expr::Previous(_) => true,
         Expr::Read(name) => is_marked(marks, *name),
         Expr::Chain(parts, _) | Expr::Apply(_, parts) => all_read_only(marks, parts.as_slice()),
         Expr::Relation(_, left, right) => {
@@ -49,26 +48,15 @@ fn reads_only(marks: &[bool], expr: &Expr) -> bool
         }
         Expr::Neg(part) | Expr::Not(part) => reads_only(marks, part.get()),
         Expr::If(conditions, branches, other) => {
-            all_read_only(marks, conditions.as_slice())
-                && all_read_only(marks, branches.as_slice())
-                && reads_only(marks, other.get())
+            let chosen = all_read_only(marks, conditions.as_slice())
+                && all_read_only(marks, branches.as_slice());
+            chosen && reads_only(marks, other.get())
         }
-        Expr::FirstTick(_)
-        | Expr::IntervalTimes(_, _)
-        | Expr::Hold(_)
-        | Expr::Convert(_, _)
-        | Expr::Sample(_, _) => false,
-    }
-}
-
-fn same_kind(a: NameKind, b: NameKind) -> bool
-    ensures { result ≡ steps.same_kind a b }
-{
-    match (a, b) {
-        (NameKind::Integer, NameKind::Integer)
-        | (NameKind::Boolean, NameKind::Boolean)
-        | (NameKind::Clock, NameKind::Clock) => true,
-        _ => false,
+        Expr::FirstTick(_) => false,
+        Expr::IntervalTimes(_, _) => false,
+        Expr::Hold(_) => false,
+        Expr::Convert(_, _) => false,
+        Expr::Sample(_, _) => false,
     }
 }
 
@@ -77,7 +65,7 @@ fn has_type_of(names: &[FlatName], name: &FlatName, expr: &Expr) -> bool
     ensures { IsTrue result ↔ (type_of_expr (types_in names.now) expr.now ≡ Some name.now.kind) }
 {
     match type_of(names, expr) {
-        Some(kind) => same_kind(kind, name.kind),
+        Some(kind) => kind == name.kind,
         None => false,
     }
 }

@@ -1,7 +1,7 @@
 //! The numbers of names.
-ghost use Rattle.std.specs.Prelude.{◌≡◌, [], ◌<◌, IfOk, OnErr, length};
+ghost use Rattle.std.specs.Prelude.{◌≡◌, [], ◌<◌, ◌≤◌, IfOk, OnErr, length};
 ghost use Rattle.one_clock.specs.Told.{number_among};
-ghost use Rattle.one_clock.specs.Scopes.{Declares, AreDeclared};
+ghost use Rattle.one_clock.specs.Scopes.{Declares, AreAdded};
 
 use crate::form::FormEnd;
 use flat_model::FlatName;
@@ -51,20 +51,18 @@ impl Scope {
         let (_, added) = self.names.insert_full(Vec::from_slice(alloc, name)?)?;
         Ok(added)
     }
-}
 
-/// The scope of names, at most 65,536 of which no two are equal.
-pub fn scope_of(alloc: Global, names: &[FlatName]) -> Result<Scope, FormEnd>
-    ensures { AreDeclared names.now result }
-{
-    if names.len() > 65536 {
-        return Err(FormEnd::NotBuilt);
-    }
-    let mut scope = Scope::new(alloc);
-    for name in names {
-        if !scope.declare(alloc, name.text.as_bytes())? {
-            return Err(FormEnd::NotBuilt);
+    /// Adds names to an empty scope, at most 65,536 of which no two are equal.
+    pub fn declare_all(&mut self, alloc: Global, names: &[FlatName]) -> Result<(), FormEnd>
+        requires empty { self.old ≡ [] }
+        requires few { length names.now ≤ 65536 }
+        ensures { AreAdded names.now self.new result }
+    {
+        for name in names {
+            if !self.declare(alloc, name.text.as_bytes())? {
+                return Err(FormEnd::NotBuilt);
+            }
         }
+        Ok(())
     }
-    Ok(scope)
 }

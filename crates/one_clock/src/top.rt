@@ -1,7 +1,7 @@
-ghost use Rattle.std.specs.Prelude.{◌≡◌, ℕ, IfOk};
+ghost use Rattle.std.specs.Prelude.{◌≡◌, [], ◌≤◌, ℕ, IfOk, length};
 ghost use Rattle.flat_model.specs.declared.model.FlatModel.{FlatModel};
 ghost use Rattle.one_clock.specs.Form.{IsForm, IsTold};
-ghost use Rattle.one_clock.specs.Answers.{TellsClause, TellsModel};
+ghost use Rattle.one_clock.specs.Answers.{TellsClause, Finds, AreEquations, AreTaken, TellsModel};
 ghost use Rattle.one_clock.specs.OneClock as one;
 
 use crate::elements::names_told;
@@ -9,8 +9,8 @@ use crate::equations::rate_told;
 use crate::expressions::Teller;
 use crate::form::{FormEnd, OneClock};
 use crate::order::are_ordered;
-use crate::scope::scope_of;
-use flat_model::{ClockExpr, Equation, FlatModel};
+use crate::scope::Scope;
+use flat_model::{ClockExpr, Equation, FlatModel, FlatName};
 use mo_parser::{ClassDef, ClassKind, Element, Tree, TreeEq, TreeExpr};
 use std::alloc::{AllocError, Global};
 use sync_values::List;
@@ -41,6 +41,56 @@ fn clauses_of(
     Ok(clauses)
 }
 
+/// The equations of the clause over these names, which an empty scope takes first.
+fn equations_in(
+    scope: &mut Scope,
+    alloc: Global,
+    text: &[u8],
+    names: &[FlatName],
+    inside: &[TreeEq],
+) -> Result<List<Equation>, FormEnd>
+    requires empty { scope.old ≡ [] }
+    requires few { length names.now ≤ 65536 }
+    ensures { Finds (AreEquations text.now names.now inside.now) result }
+{
+    scope.declare_all(alloc, names)?;
+    let teller = Teller { alloc, text, scope };
+    teller.equations_told(inside)
+}
+
+/// The equations of the clause over these names.
+fn equations_among(
+    alloc: Global,
+    text: &[u8],
+    names: &[FlatName],
+    inside: &[TreeEq],
+) -> Result<List<Equation>, FormEnd>
+    ensures { Finds (AreEquations text.now names.now inside.now) result }
+{
+    if names.len() > 65536 {
+        return Err(FormEnd::NotBuilt);
+    }
+    let mut scope = Scope::new(alloc);
+    equations_in(&mut scope, alloc, text, names, inside)
+}
+
+/// The equations of the clause over these names, in an order in which they can be taken.
+fn ordered_equations(
+    alloc: Global,
+    text: &[u8],
+    names: &[FlatName],
+    inside: &[TreeEq],
+) -> Result<List<Equation>, FormEnd>
+    ensures { Finds (AreTaken text.now names.now inside.now) result }
+{
+    let equations = equations_among(alloc, text, names, inside)?;
+    if are_ordered(alloc, names, equations.as_slice())? {
+        Ok(equations)
+    } else {
+        Err(FormEnd::NotBuilt)
+    }
+}
+
 /// The model of these elements and of the equations of the one clause.
 fn model_of(
     alloc: Global,
@@ -54,16 +104,7 @@ fn model_of(
     ensures { TellsModel text.now elements.now inside.now counter resolution result }
 {
     let names = names_told(alloc, text, elements)?;
-    let scope = scope_of(alloc, names.as_slice())?;
-    let teller = Teller {
-        alloc,
-        text,
-        scope: &scope,
-    };
-    let equations = teller.equations_told(inside)?;
-    if !are_ordered(alloc, names.as_slice(), equations.as_slice())? {
-        return Err(FormEnd::NotBuilt);
-    }
+    let equations = ordered_equations(alloc, text, names.as_slice(), inside)?;
     let clauses = clauses_of(alloc, equations.as_slice(), counter, resolution)?;
     Ok(FlatModel {
         names,

@@ -37,10 +37,18 @@ fn is_type(kind: NameKind, found: Option<NameKind>) -> bool
     }
 }
 
-fn typed_if(taken: bool, kind: NameKind) -> Option<NameKind>
-    ensures { result ≡ spec.typed_if taken kind }
+/// This type, where a part has it.
+fn same_type(kind: NameKind, found: Option<NameKind>) -> Option<NameKind>
+    ensures { result ≡ spec.typed_if (spec.is_type kind found) kind }
 {
-    if taken { Some(kind) } else { None }
+    is_type(kind, found).then_some(kind)
+}
+
+/// The type of a relation of two sides.
+fn relation_type(left: Option<NameKind>, right: Option<NameKind>) -> Option<NameKind>
+    ensures { result ≡ spec.relation_type left right }
+{
+    is_type(left?, right).then_some(NameKind::Boolean)
 }
 
 fn is_sum(op: ChainOp) -> bool
@@ -128,7 +136,6 @@ fn are_of_type(names: &[FlatName], kind: NameKind, parts: &[Expr]) -> bool
 ///
 /// Source: MLS 3.6, chapter 3, "Operators and Expressions", in this project's profile.
 #[cycle(typing)]
-#[tactic(auto, using(crate::proofs::Types::types))]
 pub fn type_of(names: &[FlatName], expr: &Expr) -> Option<NameKind>
     ensures { result ≡ spec.type_of (spec.types_in names.now) expr.now }
 {
@@ -139,35 +146,24 @@ pub fn type_of(names: &[FlatName], expr: &Expr) -> Option<NameKind>
         }
         Expr::Chain(parts, ops) => {
             let kind = operand_type(parts.len(), ops.as_slice())?;
-            typed_if(are_of_type(names, kind, parts.as_slice()), kind)
+            are_of_type(names, kind, parts.as_slice()).then_some(kind)
         }
         Expr::Relation(_, left, right) => {
-            let kind = type_of(names, left.get())?;
-            typed_if(
-                is_type(kind, type_of(names, right.get())),
-                NameKind::Boolean,
-            )
+            relation_type(type_of(names, left.get()), type_of(names, right.get()))
         }
-        Expr::Neg(part) => {
-            let kind = NameKind::Integer;
-            typed_if(is_type(kind, type_of(names, part.get())), kind)
-        }
-        Expr::Not(part) => {
-            let kind = NameKind::Boolean;
-            typed_if(is_type(kind, type_of(names, part.get())), kind)
-        }
+        Expr::Neg(part) => same_type(NameKind::Integer, type_of(names, part.get())),
+        Expr::Not(part) => same_type(NameKind::Boolean, type_of(names, part.get())),
         Expr::If(conditions, branches, other) => {
             let kind = type_of(names, other.get())?;
             let taken = has_branches(conditions.len(), branches.len())
                 && are_of_type(names, NameKind::Boolean, conditions.as_slice())
                 && are_of_type(names, kind, branches.as_slice());
-            typed_if(taken, kind)
+            taken.then_some(kind)
         }
         Expr::Apply(function, parts) => {
-            let kind = NameKind::Integer;
             let taken = parts.len() == arity(*function)
-                && are_of_type(names, kind, parts.as_slice());
-            typed_if(taken, kind)
+                && are_of_type(names, NameKind::Integer, parts.as_slice());
+            taken.then_some(NameKind::Integer)
         }
         Expr::FirstTick(_) => Some(NameKind::Boolean),
         Expr::IntervalTimes(_, _) => Some(NameKind::Integer),
