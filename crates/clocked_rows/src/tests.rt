@@ -1,8 +1,8 @@
-ghost use Rattle.std.specs.Prelude.{◌≤◌, ◌<◌, ◌^◌, IfOk, length};
+ghost use Rattle.std.specs.Prelude.{◌≤◌, ◌<◌, ◌^◌, length};
 
 use clocked_run::{Status, clocked_run};
-use outside_io::{MemShelf, MemSink, NoMemory, OpenGate};
-use std::alloc::{AllocError, Global};
+use outside_io::{MemShelf, MemSink, OpenGate};
+use std::alloc::Global;
 use std::process::Abort;
 use std::thread::Threads;
 
@@ -209,91 +209,76 @@ const TOO_LONG: Call = (
     "refused L0 at model\n",
 );
 
-fn owned(alloc: Global, words: &[&str]) -> Result<Vec<String>, AllocError> {
+fn owned(rt: &impl Abort, alloc: Global, words: &[&str]) -> Vec<String> {
     let mut all = Vec::new(alloc);
     for word in words {
-        all.push(String::from_str(alloc, word)?)?;
+        let word = String::from_str(alloc, word).expect(rt, "memory");
+        all.push(word).expect(rt, "memory");
     }
-    Ok(all)
+    all
 }
 
-fn shelf_of(alloc: Global, model: &[u8]) -> Result<MemShelf, AllocError> {
-    let name = String::from_str(alloc, "m")?;
-    let files = vec![in alloc; (name, Vec::from_slice(alloc, model)?)]?;
-    Ok(MemShelf::new(files, 4096, Vec::new(alloc)))
+fn shelf_of(rt: &impl Abort, alloc: Global, model: &[u8]) -> MemShelf {
+    let name = String::from_str(alloc, "m").expect(rt, "memory");
+    let text = Vec::from_slice(alloc, model).expect(rt, "memory");
+    let mut files = Vec::new(alloc);
+    files.push((name, text)).expect(rt, "memory");
+    MemShelf::new(files, 4096, Vec::new(alloc))
 }
 
-fn sink_of(alloc: Global, chunk: usize, failing: u64) -> Result<MemSink, NoMemory>
+fn sink_of(rt: &impl Abort, alloc: Global, chunk: usize, failing: u64) -> MemSink
     requires { 0 < chunk }
 {
-    MemSink::new(alloc, 4096, chunk, Vec::from_slice(alloc, &[failing])?)
+    let failing = Vec::from_slice(alloc, &[failing]).expect(rt, "memory");
+    MemSink::new(alloc, 4096, chunk, failing).expect(rt, "memory")
 }
 
-/// Whether a call over this shelf ends with its status, out and err.
-fn is_answered<R: Threads + Sync>(
-    rt: &R,
-    alloc: Global,
-    shelf: &mut MemShelf,
-    call: &Call,
-) -> Result<bool, NoMemory> {
-    let (words, _, [out_fails, err_fails], status, out_text, err_text) = *call;
-    let words = owned(alloc, words)?;
-    let mut out = sink_of(alloc, 7, out_fails)?;
-    let mut err = sink_of(alloc, 4096, err_fails)?;
-    let found = clocked_run(
-        rt,
-        alloc,
-        words.as_slice(),
-        shelf,
-        &mut out,
-        &mut err,
-        &OpenGate,
-    );
-    Ok(found == status && out.text() == out_text.as_bytes() && err.text() == err_text.as_bytes())
-}
-
-fn check<R: Threads + Abort + Sync>(
+/// Whether a call over this model ends with its status, out and err.
+fn is_answered<R: Threads + Abort + Sync>(
     rt: &R,
     alloc: Global,
     model: &[u8],
     call: &Call,
-) -> Result<(), NoMemory> {
-    let mut shelf = shelf_of(alloc, model)?;
-    let holds = is_answered(rt, alloc, &mut shelf, call)?;
-    assert!(rt; holds, "{} must end with {}{}", call.1, call.4, call.5);
-    Ok(())
+) -> bool {
+    let words = owned(rt, alloc, call.0);
+    let mut shelf = shelf_of(rt, alloc, model);
+    let mut out = sink_of(rt, alloc, 7, call.2[0]);
+    let mut err = sink_of(rt, alloc, 4096, call.2[1]);
+    let status = clocked_run(rt, alloc, &words, &mut shelf, &mut out, &mut err, &OpenGate);
+    status == call.3 && out.text() == call.4.as_bytes() && err.text() == call.5.as_bytes()
 }
 
 #[test]
-fn commands_have_their_answers(rt: HostRuntime) -> Result<(), NoMemory> {
+fn commands_have_their_answers(rt: HostRuntime) {
     for call in &CALLS {
-        check(&rt, rt.alloc(), call.1.as_bytes(), call)?;
+        let holds = is_answered(&rt, rt.alloc(), call.1.as_bytes(), call);
+        assert!(rt; holds, "{} must end with {}{}", call.1, call.4, call.5);
     }
-    Ok(())
 }
 
 #[test]
-fn texts_are_refused_at_their_places(rt: HostRuntime) -> Result<(), NoMemory> {
+fn texts_are_refused_at_their_places(rt: HostRuntime) {
     for &(model, err) in &REFUSED {
         let call = (ONE, model, NONE, Status::Refused, "", err);
-        check(&rt, rt.alloc(), model.as_bytes(), &call)?;
+        let holds = is_answered(&rt, rt.alloc(), model.as_bytes(), &call);
+        assert!(rt; holds, "{model} must end with {err}");
     }
-    Ok(())
 }
 
 /// Some spaces, and the model behind them.
-fn padded(alloc: Global, spaces: usize) -> Result<Vec<u8>, AllocError>
+fn padded(rt: &impl Abort, alloc: Global, spaces: usize) -> Vec<u8>
     requires few { spaces < 2 ^ 21 }
-    ensures some { IfOk result (λ text. 1 ≤ length text.items) }
+    ensures some { 1 ≤ length result.items }
 {
-    let mut text = vec![in alloc; b' '; spaces]?;
-    text.extend_from_slice(COUNTER.as_bytes())?;
-    Ok(text)
+    let mut text = vec![in alloc; b' '; spaces].expect(rt, "memory");
+    text.extend_from_slice(COUNTER.as_bytes())
+        .expect(rt, "memory");
+    text
 }
 
 #[test]
-fn a_model_may_have_a_mebibyte(rt: HostRuntime) -> Result<(), NoMemory> {
-    let text = padded(rt.alloc(), 1_048_577 - COUNTER.len())?;
-    check(&rt, rt.alloc(), &text[1..], &STOP_AT_ONCE)?;
-    check(&rt, rt.alloc(), &text, &TOO_LONG)
+fn a_model_may_have_a_mebibyte(rt: HostRuntime) {
+    let text = padded(&rt, rt.alloc(), 1_048_577 - COUNTER.len());
+    assert!(rt; is_answered(&rt, rt.alloc(), &text[1..], &STOP_AT_ONCE));
+    assert!(rt; is_answered(&rt, rt.alloc(), &text, &TOO_LONG));
 }
