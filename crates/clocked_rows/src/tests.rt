@@ -248,20 +248,23 @@ fn is_answered<R: Threads + Abort + Sync>(
     status == call.3 && out.text() == call.4.as_bytes() && err.text() == call.5.as_bytes()
 }
 
+fn check<R: Threads + Abort + Sync>(rt: &R, alloc: Global, model: &[u8], call: &Call) {
+    let holds = is_answered(rt, alloc, model, call);
+    assert!(rt; holds, "{} must end with {}{}", call.1, call.4, call.5);
+}
+
 #[test]
 fn commands_have_their_answers(rt: HostRuntime) {
     for call in &CALLS {
-        let holds = is_answered(&rt, rt.alloc(), call.1.as_bytes(), call);
-        assert!(rt; holds, "{} must end with {}{}", call.1, call.4, call.5);
+        check(&rt, rt.alloc(), call.1.as_bytes(), call);
     }
 }
 
 #[test]
 fn texts_are_refused_at_their_places(rt: HostRuntime) {
-    for &(model, err) in &REFUSED {
-        let call = (ONE, model, NONE, Status::Refused, "", err);
-        let holds = is_answered(&rt, rt.alloc(), model.as_bytes(), &call);
-        assert!(rt; holds, "{model} must end with {err}");
+    for row in &REFUSED {
+        let call = (ONE, row.0, NONE, Status::Refused, "", row.1);
+        check(&rt, rt.alloc(), row.0.as_bytes(), &call);
     }
 }
 
@@ -279,6 +282,6 @@ fn padded(rt: &impl Abort, alloc: Global, spaces: usize) -> Vec<u8>
 #[test]
 fn a_model_may_have_a_mebibyte(rt: HostRuntime) {
     let text = padded(&rt, rt.alloc(), 1_048_577 - COUNTER.len());
-    assert!(rt; is_answered(&rt, rt.alloc(), &text[1..], &STOP_AT_ONCE));
-    assert!(rt; is_answered(&rt, rt.alloc(), &text, &TOO_LONG));
+    check(&rt, rt.alloc(), &text[1..], &STOP_AT_ONCE);
+    check(&rt, rt.alloc(), &text, &TOO_LONG);
 }
