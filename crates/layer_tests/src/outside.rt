@@ -67,7 +67,9 @@ fn is_whole(found: &Result<Vec<u8>, ReadEnd>, wanted: Result<&[u8], ReadEnd>) ->
 }
 
 /// A name, a limit, the numbers of the reads that fail, and what a read of the whole file gives.
-const WHOLES: [(&str, u64, [u64; 2], Result<&[u8], ReadEnd>); 5] = [
+type Whole = (&'static str, u64, [u64; 2], Result<&'static [u8], ReadEnd>);
+
+const WHOLES: [Whole; 5] = [
     ("a", 5, [9, 9], Ok(b"hello")),
     ("a", 4, [9, 9], Err(ReadEnd::TooLong)),
     ("empty", 0, [9, 9], Ok(b"")),
@@ -75,12 +77,21 @@ const WHOLES: [(&str, u64, [u64; 2], Result<&[u8], ReadEnd>); 5] = [
     ("b", 5, [9, 9], Err(ReadEnd::Failed)),
 ];
 
+fn is_read_whole(rt: &impl Abort, alloc: Global, row: &Whole) -> bool {
+    assert!(rt; row.1 < 1 << 32);
+    let mut shelf = shelf_of(rt, alloc, 2, &row.2);
+    is_whole(&read_whole(alloc, &mut shelf, row.0, row.1), row.3)
+}
+
 #[test]
 fn reads_whole_files(rt: HostRuntime) {
     for row in &WHOLES {
-        let mut shelf = shelf_of(&rt, rt.alloc(), 2, &row.2);
-        let found = read_whole(rt.alloc(), &mut shelf, row.0, row.1);
-        assert!(rt; is_whole(&found, row.3), "{} up to {}", row.0, row.1);
+        assert!(rt;
+            is_read_whole(&rt, rt.alloc(), row),
+            "{} up to {}",
+            row.0,
+            row.1
+        );
     }
 }
 

@@ -46,32 +46,12 @@ const FAULTS: [(&[u8], SyntaxCode, u32); 9] = [
 
 #[test]
 fn faults_of_texts(rt: HostRuntime) {
-    for &(text, code, at) in &FAULTS {
-        assert!(rt; has_fault(&rt, rt.alloc(), text, code, at), "at {text:?}");
+    for row in &FAULTS {
+        let holds = has_fault(&rt, rt.alloc(), row.0, row.1, row.2);
+        assert!(rt; holds, "at {:?}", row.0);
     }
     one_tree();
     fault_law();
-}
-
-// Behind `front` so many openings, what stands inside, and as many closing brackets.
-fn nested(
-    rt: &impl Abort,
-    alloc: Global,
-    front: &[u8],
-    opening: &[u8],
-    inner: &[u8],
-    pairs: usize,
-) -> Vec<u8> {
-    let mut text = Vec::from_slice(alloc, front).expect(rt, "memory");
-    for _ in 0..pairs {
-        text.extend_from_slice(opening).expect(rt, "memory");
-    }
-    text.extend_from_slice(inner).expect(rt, "memory");
-    for _ in 0..pairs {
-        text.push(b')').expect(rt, "memory");
-    }
-    text.extend_from_slice(b"; end A;").expect(rt, "memory");
-    text
 }
 
 const EQUATION: &[u8] = b"model A equation x = ";
@@ -102,8 +82,24 @@ const DEPTHS: [Depth; 11] = [
     (NOTE, b"(", b"{", 64, Some((SyntaxCode::S2, 83))),
 ];
 
+fn put_times(rt: &impl Abort, text: &mut Vec<u8>, piece: &[u8], times: usize) {
+    for _ in 0..times {
+        text.extend_from_slice(piece).expect(rt, "memory");
+    }
+}
+
+// Behind what stands in front so many openings, what stands inside, and as many closing brackets.
+fn nested(rt: &impl Abort, alloc: Global, row: &Depth) -> Vec<u8> {
+    let mut text = Vec::from_slice(alloc, row.0).expect(rt, "memory");
+    put_times(rt, &mut text, row.1, row.3);
+    put_times(rt, &mut text, row.2, 1);
+    put_times(rt, &mut text, b")", row.3);
+    put_times(rt, &mut text, b"; end A;", 1);
+    text
+}
+
 fn is_depth(rt: &impl Abort, alloc: Global, row: &Depth) -> bool {
-    let text = nested(rt, alloc, row.0, row.1, row.2, row.3);
+    let text = nested(rt, alloc, row);
     match row.4 {
         Some((code, at)) => has_fault(rt, alloc, &text, code, at),
         None => has_tree(rt, alloc, &text),
@@ -183,20 +179,20 @@ fn is_chain(expr: &TreeExpr, at: u32, end: u32, count: usize) -> bool {
     expr.span.at == at && expr.span.end == end && parts == count
 }
 
-fn has_spans(equation: &TreeEq) -> bool {
-    match equation {
-        TreeEq::Equal(left, right) => is_chain(left, 17, 18, 0) && is_chain(right, 21, 37, 2),
+fn has_spans(equations: &[TreeEq]) -> bool {
+    match equations {
+        [TreeEq::Equal(left, right)] => is_chain(left, 17, 18, 0) && is_chain(right, 21, 37, 2),
         _ => false,
     }
 }
 
+const SIGNED_SUM: &[u8] = b"model A equation x = -(a) + b * 2 ^ c; end A;";
+
 #[test]
 fn spans_of_expressions(rt: HostRuntime) {
-    let text: &[u8] = b"model A equation x = -(a) + b * 2 ^ c; end A;";
-    let tree = parsed(&rt, rt.alloc(), text).expect(&rt, "a tree");
+    let tree = parsed(&rt, rt.alloc(), SIGNED_SUM).expect(&rt, "a tree");
     let class = tree.classes.get(0).expect(&rt, "a class");
-    let equation = class.equations.get(0).expect(&rt, "an equation");
-    assert!(rt; has_spans(equation));
+    assert!(rt; has_spans(class.equations.as_slice()));
 }
 
 const LOOP: &[u8] = b"within;

@@ -1,3 +1,5 @@
+use std::alloc::Global;
+use std::process::Abort;
 use sync_values::Fail::{Divide, TooLarge};
 use sync_values::{
     ChainOp, Fail, List, Rel, Text, Value, abs, add, div, greatest, least, modulo, mul, neg,
@@ -101,19 +103,34 @@ fn relations(rt: HostRuntime) {
 }
 
 #[test]
-fn lists_and_texts(rt: HostRuntime) {
-    let mut list = List::new(rt.alloc());
-    assert!(rt; list.is_empty());
+fn empty_lists(rt: HostRuntime) {
+    let list: List<u8> = List::new(rt.alloc());
     let room: List<u8> = List::with_capacity(rt.alloc(), 2).expect(&rt, "memory");
-    assert!(rt; room.is_empty());
-    list.push(ChainOp::Plus).expect(&rt, "memory");
-    list.push(ChainOp::Minus).expect(&rt, "memory");
-    assert!(rt; list.len() == 2);
-    assert!(rt; matches!(list.get(1), Some(ChainOp::Minus)));
-    assert!(rt; matches!(list.pop(), Some(ChainOp::Minus)));
+    assert!(rt; list.is_empty() && room.is_empty());
+}
+
+fn plus_and_minus(rt: &impl Abort, alloc: Global) -> List<ChainOp> {
+    let mut list = List::new(alloc);
+    list.push(ChainOp::Plus).expect(rt, "memory");
+    list.push(ChainOp::Minus).expect(rt, "memory");
+    list
+}
+
+fn is_plus_and_minus(list: &List<ChainOp>) -> bool {
+    list.len() == 2 && matches!(list.get(1), Some(ChainOp::Minus))
+}
+
+#[test]
+fn lists(rt: HostRuntime) {
+    let mut list = plus_and_minus(&rt, rt.alloc());
+    assert!(rt; is_plus_and_minus(&list));
+    assert!(rt; list.pop() == Some(ChainOp::Minus));
     let list = List::from_vec(list.into_vec());
     assert!(rt; matches!(list.as_slice(), [ChainOp::Plus]));
+}
+
+#[test]
+fn texts(rt: HostRuntime) {
     let text = Text::from_bytes(rt.alloc(), b"a.v").expect(&rt, "memory");
-    assert!(rt; text.len() == 3);
-    assert!(rt; text.as_bytes() == b"a.v".as_slice());
+    assert!(rt; text.len() == 3 && text.as_bytes() == b"a.v".as_slice());
 }
