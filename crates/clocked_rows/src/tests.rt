@@ -160,33 +160,78 @@ const CALLS: [Call; 19] = [
 ];
 
 /// Texts that are refused at a place.
-const REFUSED: [(&str, &str); 10] = [
-    ("model M @ end M;\n", "refused L1 at 1:9\n"),
-    ("model M\n/* x\nend M;\n", "refused L2 at 2:1\n"),
+const REFUSED: [Call; 10] = [
     (
+        ONE,
+        "model M @ end M;\n",
+        NONE,
+        Status::Refused,
+        "",
+        "refused L1 at 1:9\n",
+    ),
+    (
+        ONE,
+        "model M\n/* x\nend M;\n",
+        NONE,
+        Status::Refused,
+        "",
+        "refused L2 at 2:1\n",
+    ),
+    (
+        ONE,
         "model M Integer x = 9223372036854775808; equation end M;\n",
+        NONE,
+        Status::Refused,
+        "",
         "refused L3 at 1:21\n",
     ),
     (
+        ONE,
         "model X\n  parameter Integer a = 3;\n  parameter Integer b = 2;\n  Integer y = a * -b;\nend X;\n",
+        NONE,
+        Status::Refused,
+        "",
         "refused S1 at 4:19\n",
     ),
-    ("model M\n  Integer x;\nend", "refused S1 at 3:4\n"),
     (
+        ONE,
+        "model M\n  Integer x;\nend",
+        NONE,
+        Status::Refused,
+        "",
+        "refused S1 at 3:4\n",
+    ),
+    (
+        ONE,
         "model M Integer x = 1.5; equation end M;\n",
+        NONE,
+        Status::Refused,
+        "",
         "refused S3 at 1:21\n",
     ),
-    (DEEP, "refused S2 at 1:86\n"),
+    (ONE, DEEP, NONE, Status::Refused, "", "refused S2 at 1:86\n"),
     (
+        ONE,
         "model M Integer x; equation x = 1; end M;\n",
+        NONE,
+        Status::Refused,
+        "",
         "refused B0 at model\n",
     ),
     (
+        ONE,
         "model M Integer x; equation when Clock(1) then x = y; end when; end M;\n",
+        NONE,
+        Status::Refused,
+        "",
         "refused B0 at model\n",
     ),
     (
+        ONE,
         "model M Boolean b; equation when Clock(1) then b = 1; end when; end M;\n",
+        NONE,
+        Status::Refused,
+        "",
         "refused B0 at model\n",
     ),
 ];
@@ -253,19 +298,20 @@ fn check<R: Threads + Abort + Sync>(rt: &R, alloc: Global, model: &[u8], call: &
     assert!(rt; holds, "{} must end with {}{}", call.1, call.4, call.5);
 }
 
-#[test]
-fn commands_have_their_answers(rt: HostRuntime) {
-    for call in &CALLS {
-        check(&rt, rt.alloc(), call.1.as_bytes(), call);
+fn check_all<R: Threads + Abort + Sync>(rt: &R, alloc: Global, calls: &[Call]) {
+    for call in calls {
+        check(rt, alloc, call.1.as_bytes(), call);
     }
 }
 
 #[test]
+fn commands_have_their_answers(rt: HostRuntime) {
+    check_all(&rt, rt.alloc(), &CALLS);
+}
+
+#[test]
 fn texts_are_refused_at_their_places(rt: HostRuntime) {
-    for row in &REFUSED {
-        let call = (ONE, row.0, NONE, Status::Refused, "", row.1);
-        check(&rt, rt.alloc(), row.0.as_bytes(), &call);
-    }
+    check_all(&rt, rt.alloc(), &REFUSED);
 }
 
 /// Some spaces, and the model behind them.

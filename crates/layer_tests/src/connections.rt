@@ -104,11 +104,15 @@ fn has_classes(rt: &impl Abort, alloc: Global, case: &Case) -> bool {
     are_same(classes.as_slice(), case.classes)
 }
 
+fn have_classes(rt: &impl Abort, alloc: Global, cases: &[Case]) {
+    for case in cases {
+        assert!(rt; has_classes(rt, alloc, case), "{}", case.name);
+    }
+}
+
 #[test]
 fn small_classes(rt: HostRuntime) {
-    for case in &SMALL {
-        assert!(rt; has_classes(&rt, rt.alloc(), case), "{}", case.name);
-    }
+    have_classes(&rt, rt.alloc(), &SMALL);
 }
 
 // The pairs of each number below the count with the one before it, from the last.

@@ -83,16 +83,15 @@ fn is_read_whole(rt: &impl Abort, alloc: Global, row: &Whole) -> bool {
     is_whole(&read_whole(alloc, &mut shelf, row.0, row.1), row.3)
 }
 
+fn are_read_whole(rt: &impl Abort, alloc: Global, rows: &[Whole]) {
+    for row in rows {
+        assert!(rt; is_read_whole(rt, alloc, row), "{} up to {}", row.0, row.1);
+    }
+}
+
 #[test]
 fn reads_whole_files(rt: HostRuntime) {
-    for row in &WHOLES {
-        assert!(rt;
-            is_read_whole(&rt, rt.alloc(), row),
-            "{} up to {}",
-            row.0,
-            row.1
-        );
-    }
+    are_read_whole(&rt, rt.alloc(), &WHOLES);
 }
 
 const FAILED: Result<(), WriteFailed> = Err(WriteFailed);

@@ -112,11 +112,15 @@ const TEXTS: [(&[u8], &[Place]); 22] = [
     ),
 ];
 
+fn have_tokens(rt: &impl Abort, alloc: Global, rows: &[(&[u8], &[Place])]) {
+    for row in rows {
+        has_tokens(rt, alloc, row.0, row.1);
+    }
+}
+
 #[test]
 fn tokens_of_texts(rt: HostRuntime) {
-    for row in &TEXTS {
-        has_tokens(&rt, rt.alloc(), row.0, row.1);
-    }
+    have_tokens(&rt, rt.alloc(), &TEXTS);
 }
 
 #[test]

@@ -16,10 +16,6 @@ pub fn parsed(rt: &impl Abort, alloc: Global, text: &[u8]) -> Result<Tree, Parse
     parse(alloc, text, &tokens_of(rt, alloc, text))
 }
 
-fn has_tree(rt: &impl Abort, alloc: Global, text: &[u8]) -> bool {
-    parsed(rt, alloc, text).is_ok()
-}
-
 fn has_fault(rt: &impl Abort, alloc: Global, text: &[u8], code: SyntaxCode, at: u32) -> bool {
     parsed(rt, alloc, text).err() == Some(ParseEnd::Fault { code, at })
 }
@@ -58,28 +54,91 @@ const EQUATION: &[u8] = b"model A equation x = ";
 
 const NOTE: &[u8] = b"model A annotation";
 
-/// What stands in front, an opening, what stands inside, the number of pairs, and the fault.
+/// What stands in front, an opening, what stands inside, the number of pairs, and the end that is no tree.
 type Depth = (
     &'static [u8],
     &'static [u8],
     &'static [u8],
     usize,
-    Option<(SyntaxCode, u32)>,
+    Option<ParseEnd>,
 );
 
 // A closing bracket directly behind the opening one of level 65 stands outside this pair.
 const DEPTHS: [Depth; 11] = [
     (EQUATION, b"(", b"1", 64, None),
-    (EQUATION, b"(", b"1", 65, Some((SyntaxCode::S2, 86))),
-    (EQUATION, b"(", b"", 65, Some((SyntaxCode::S1, 86))),
+    (
+        EQUATION,
+        b"(",
+        b"1",
+        65,
+        Some(ParseEnd::Fault {
+            code: SyntaxCode::S2,
+            at: 86,
+        }),
+    ),
+    (
+        EQUATION,
+        b"(",
+        b"",
+        65,
+        Some(ParseEnd::Fault {
+            code: SyntaxCode::S1,
+            at: 86,
+        }),
+    ),
     (EQUATION, b"f(", b"", 65, None),
-    (EQUATION, b"f(", b"a", 65, Some((SyntaxCode::S2, 151))),
-    (EQUATION, b"f(", b"]", 65, Some((SyntaxCode::S2, 151))),
-    (EQUATION, b"if ", b"a", 65, Some((SyntaxCode::S2, 216))),
+    (
+        EQUATION,
+        b"f(",
+        b"a",
+        65,
+        Some(ParseEnd::Fault {
+            code: SyntaxCode::S2,
+            at: 151,
+        }),
+    ),
+    (
+        EQUATION,
+        b"f(",
+        b"]",
+        65,
+        Some(ParseEnd::Fault {
+            code: SyntaxCode::S2,
+            at: 151,
+        }),
+    ),
+    (
+        EQUATION,
+        b"if ",
+        b"a",
+        65,
+        Some(ParseEnd::Fault {
+            code: SyntaxCode::S2,
+            at: 216,
+        }),
+    ),
     (NOTE, b"(", b"x", 64, None),
-    (NOTE, b"(", b"x", 65, Some((SyntaxCode::S2, 83))),
+    (
+        NOTE,
+        b"(",
+        b"x",
+        65,
+        Some(ParseEnd::Fault {
+            code: SyntaxCode::S2,
+            at: 83,
+        }),
+    ),
     (NOTE, b"(", b"", 65, None),
-    (NOTE, b"(", b"{", 64, Some((SyntaxCode::S2, 83))),
+    (
+        NOTE,
+        b"(",
+        b"{",
+        64,
+        Some(ParseEnd::Fault {
+            code: SyntaxCode::S2,
+            at: 83,
+        }),
+    ),
 ];
 
 fn put_times(rt: &impl Abort, text: &mut Vec<u8>, piece: &[u8], times: usize) {
@@ -98,24 +157,12 @@ fn nested(rt: &impl Abort, alloc: Global, row: &Depth) -> Vec<u8> {
     text
 }
 
-fn is_depth(rt: &impl Abort, alloc: Global, row: &Depth) -> bool {
-    let text = nested(rt, alloc, row);
-    match row.4 {
-        Some((code, at)) => has_fault(rt, alloc, &text, code, at),
-        None => has_tree(rt, alloc, &text),
-    }
-}
-
 #[test]
 fn depth_of_brackets(rt: HostRuntime) {
     for row in &DEPTHS {
-        assert!(rt;
-            is_depth(&rt, rt.alloc(), row),
-            "{:?} and {:?}, {} times",
-            row.0,
-            row.1,
-            row.3
-        );
+        let text = nested(&rt, rt.alloc(), row);
+        let end = parsed(&rt, rt.alloc(), &text).err();
+        assert!(rt; end == row.4, "at {text:?}");
     }
 }
 
