@@ -54,7 +54,7 @@ const EQUATION: &[u8] = b"model A equation x = ";
 
 const NOTE: &[u8] = b"model A annotation";
 
-/// What stands in front, an opening, what stands inside, the number of pairs, and the end that is no tree.
+/// What stands in front, an opening, what stands inside, the number of pairs, and the fault where there is one.
 type Depth = (
     &'static [u8],
     &'static [u8],
