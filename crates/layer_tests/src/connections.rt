@@ -1,7 +1,6 @@
-ghost use Rattle.std.specs.Prelude.{IfOk};
 ghost use Rattle.mo_connect.specs.Chain.{AreBelow};
 
-use mo_connect::{NoMemory, Pair, sets};
+use mo_connect::{Pair, sets};
 use std::alloc::Global;
 use std::process::Abort;
 use sync_values::List;
@@ -83,48 +82,51 @@ fn are_same(classes: &[List<u32>], wanted: &[&[u32]]) -> bool {
     true
 }
 
-#[test]
-fn small_classes(rt: HostRuntime) -> Result<(), NoMemory> {
-    for case in &SMALL {
-        let classes = sets(
-            rt.alloc(),
-            case.count,
-            &listed(&rt, rt.alloc(), case.count, case.pairs)?,
-        )?;
-        assert!(rt; are_same(classes.as_slice(), case.classes), "{}", case.name);
-    }
-    Ok(())
-}
-
-// A chain of 65,536 numbers, from its end.
-#[test]
-fn long_chain(rt: HostRuntime) -> Result<(), NoMemory> {
-    let count = 65_536;
-    let mut pairs = List::new(rt.alloc());
-    for k in 1..count {
-        pairs.push((count - k, count - k - 1))?;
-    }
-    let classes = sets(
-        rt.alloc(),
-        count,
-        &listed(&rt, rt.alloc(), count, pairs.as_slice())?,
-    )?;
-    assert_eq!(rt; classes.len(), 1);
-    Ok(())
-}
-
-fn listed(
-    rt: &impl Abort,
-    alloc: Global,
-    count: u32,
-    pairs: &[(u32, u32)],
-) -> Result<List<Pair>, NoMemory>
-    ensures { IfOk result (AreBelow count) }
+/// The list of pairs of numbers below the count.
+fn listed(rt: &impl Abort, alloc: Global, count: u32, pairs: &[(u32, u32)]) -> List<Pair>
+    ensures { AreBelow count result }
 {
     let mut list = List::new(alloc);
-    for (a, b) in pairs {
-        assert!(rt; *a < count && *b < count);
-        list.push(Pair { a: *a, b: *b })?;
+    for &(a, b) in pairs {
+        assert!(rt; a < count && b < count);
+        list.push(Pair { a, b }).expect(rt, "memory");
     }
-    Ok(list)
+    list
+}
+
+fn classes_of(rt: &impl Abort, alloc: Global, count: u32, pairs: &[(u32, u32)]) -> List<List<u32>> {
+    let pairs = listed(rt, alloc, count, pairs);
+    sets(alloc, count, &pairs).expect(rt, "memory")
+}
+
+fn has_classes(rt: &impl Abort, alloc: Global, case: &Case) -> bool {
+    let classes = classes_of(rt, alloc, case.count, case.pairs);
+    are_same(classes.as_slice(), case.classes)
+}
+
+fn have_classes(rt: &impl Abort, alloc: Global, cases: &[Case]) {
+    for case in cases {
+        assert!(rt; has_classes(rt, alloc, case), "{}", case.name);
+    }
+}
+
+#[test]
+fn small_classes(rt: HostRuntime) {
+    have_classes(&rt, rt.alloc(), &SMALL);
+}
+
+// The pairs of each number below the count with the one before it, from the last.
+fn chain_down(rt: &impl Abort, alloc: Global, count: u32) -> Vec<(u32, u32)> {
+    let mut pairs = Vec::new(alloc);
+    for k in 1..count {
+        pairs.push((count - k, count - k - 1)).expect(rt, "memory");
+    }
+    pairs
+}
+
+#[test]
+fn long_chain(rt: HostRuntime) {
+    let pairs = chain_down(&rt, rt.alloc(), 65_536);
+    let classes = classes_of(&rt, rt.alloc(), 65_536, &pairs);
+    assert!(rt; classes.len() == 1);
 }

@@ -1,17 +1,16 @@
-ghost use Rattle.std.specs.Prelude.{◌≡◌, ◌≢◌, [], ◌∷◌, true, IfOk};
-ghost use Rattle.sync_values.specs.declared.value.Value.TheVariants as value;
+ghost use Rattle.std.specs.Prelude.{◌≡◌, ◌≢◌, [], ◌∷◌, true};
 ghost use Rattle.flat_model.specs.declared.evaluate.Vantage.{Vantage};
-ghost use Rattle.flat_model.specs.Operators.{Fails};
+ghost use Rattle.flat_model.specs.Operators.{Absent, Fails};
 ghost use Rattle.flat_model.specs.Views.{Views};
 ghost use Rattle.flat_model.specs.Meaning.{value_of};
-ghost use Rattle.flat_model.specs.Samples.{may_stand};
+ghost use Rattle.flat_model.specs.Samples.{may_stand, samples_are_plain};
+ghost use Rattle.flat_model.specs.Intervals.{IsMeasurable};
 
 use flat_model::{Conversion, Elapsed, Expr, Fun, Lookup, eval, tick_law};
 use rational_time::{Ratio, make};
 use sqlite_items::Boxed;
-use std::alloc::{AllocError, Global};
+use std::alloc::Global;
 use std::process::Abort;
-use std::test::Fail as Failure;
 use sync_values::{ChainOp, Fail, List, Rel, Value};
 
 /// At the moment name n has the value n, at its tick before 100 + n and at its last tick 200 + n. At the moment before
@@ -64,258 +63,266 @@ fn at_moment() -> Shown {
     Shown { period: make(3, 2) }
 }
 
+fn value<V: Lookup>(expr: Expr, values: &V) -> Result<Value, Fail>
+    requires present { value_of expr (V.views values.now) ≢ Absent }
+    requires samples { samples_are_plain expr ≡ true }
+    requires interval { IsMeasurable (V.elapsed values.now) }
+{
+    eval(&expr, values)
+}
+
+fn boxed(rt: &impl Abort, alloc: Global, expr: Expr) -> Boxed<Expr>
+    ensures { result ≡ expr }
+{
+    Boxed::new(alloc, expr).expect(rt, "memory")
+}
+
+fn one(rt: &impl Abort, alloc: Global, expr: Expr) -> List<Expr>
+    ensures { result ≡ expr ∷ [] }
+{
+    let mut list = List::new(alloc);
+    list.push(expr).expect(rt, "memory");
+    list
+}
+
+fn two(rt: &impl Abort, alloc: Global, a: Expr, b: Expr) -> List<Expr>
+    ensures { result ≡ a ∷ b ∷ [] }
+{
+    let mut list = one(rt, alloc, a);
+    list.push(b).expect(rt, "memory");
+    list
+}
+
+/// `a op b`
+fn chain(rt: &impl Abort, alloc: Global, op: ChainOp, a: Expr, b: Expr) -> Expr
+    ensures { result ≡ Expr.Chain (a ∷ b ∷ []) (op ∷ []) }
+{
+    let mut ops = List::new(alloc);
+    ops.push(op).expect(rt, "memory");
+    Expr::Chain(two(rt, alloc, a, b), ops)
+}
+
 /// The value of `a op b`.
-fn chain(alloc: Global, op: ChainOp, a: i64, b: i64) -> Result<Result<Value, Fail>, AllocError>
+fn joined(rt: &impl Abort, alloc: Global, op: ChainOp, a: i64, b: i64) -> Result<Value, Fail>
     requires over { op ≢ ChainOp.Over }
     requires and { op ≢ ChainOp.And }
     requires or { op ≢ ChainOp.Or }
 {
-    let parts = vec![in alloc; Expr::Const(Value::Int(a)), Expr::Const(Value::Int(b))]?;
-    let ops = vec![in alloc; op]?;
-    let expr = Expr::Chain(List::from_vec(parts), List::from_vec(ops));
-    Ok(eval(&expr, &at_moment()))
+    let left = Expr::Const(Value::Int(a));
+    let right = Expr::Const(Value::Int(b));
+    value(chain(rt, alloc, op, left, right), &at_moment())
 }
 
 /// The value of a function of two numbers.
-fn call(alloc: Global, function: Fun, a: i64, b: i64) -> Result<Result<Value, Fail>, AllocError>
+fn called(rt: &impl Abort, alloc: Global, function: Fun, a: i64, b: i64) -> Result<Value, Fail>
     requires { function ≢ Fun.Abs }
 {
-    let parts = vec![in alloc; Expr::Const(Value::Int(a)), Expr::Const(Value::Int(b))]?;
-    let expr = Expr::Apply(function, List::from_vec(parts));
-    Ok(eval(&expr, &at_moment()))
+    let left = Expr::Const(Value::Int(a));
+    let right = Expr::Const(Value::Int(b));
+    value(
+        Expr::Apply(function, two(rt, alloc, left, right)),
+        &at_moment(),
+    )
 }
 
 /// The value of `a rel b` of two Booleans.
-fn relation(alloc: Global, rel: Rel, a: bool, b: bool) -> Result<Result<Value, Fail>, AllocError> {
-    let left = Boxed::new(alloc, Expr::Const(Value::Bool(a)))?;
-    let right = Boxed::new(alloc, Expr::Const(Value::Bool(b)))?;
-    Ok(eval(&Expr::Relation(rel, left, right), &at_moment()))
+fn related(rt: &impl Abort, alloc: Global, rel: Rel, a: bool, b: bool) -> Result<Value, Fail> {
+    let left = boxed(rt, alloc, Expr::Const(Value::Bool(a)));
+    let right = boxed(rt, alloc, Expr::Const(Value::Bool(b)));
+    value(Expr::Relation(rel, left, right), &at_moment())
 }
 
-/// Asserts that `a op b` has this value.
-fn has_chain(
-    rt: &impl Abort,
-    alloc: Global,
-    op: ChainOp,
-    a: i64,
-    b: i64,
-    wanted: Result<i64, Fail>,
-) -> Result<(), AllocError>
-    requires over { op ≢ ChainOp.Over }
-    requires and { op ≢ ChainOp.And }
-    requires or { op ≢ ChainOp.Or }
-{
-    let found = chain(alloc, op, a, b)?;
-    assert!(rt; found == wanted.map(Value::Int), "{op:?} of {a} and {b}");
-    Ok(())
+/// What is made of two numbers.
+#[derive(Clone, Copy)]
+enum Made {
+    Sum,
+    Difference,
+    Product,
+    Div,
+    Mod,
+    Rem,
+    Min,
+    Max,
 }
 
-/// Asserts that a function of two numbers has this value.
-fn has_call(
-    rt: &impl Abort,
-    alloc: Global,
-    function: Fun,
-    a: i64,
-    b: i64,
-    wanted: Result<i64, Fail>,
-) -> Result<(), AllocError>
-    requires { function ≢ Fun.Abs }
-{
-    let found = call(alloc, function, a, b)?;
-    assert!(rt;
-        found == wanted.map(Value::Int),
-        "{function:?} of {a} and {b}"
-    );
-    Ok(())
+fn value_made(rt: &impl Abort, alloc: Global, how: Made, a: i64, b: i64) -> Result<Value, Fail> {
+    match how {
+        Made::Sum => joined(rt, alloc, ChainOp::Plus, a, b),
+        Made::Difference => joined(rt, alloc, ChainOp::Minus, a, b),
+        Made::Product => joined(rt, alloc, ChainOp::Times, a, b),
+        Made::Div => called(rt, alloc, Fun::Div, a, b),
+        Made::Mod => called(rt, alloc, Fun::Mod, a, b),
+        Made::Rem => called(rt, alloc, Fun::Rem, a, b),
+        Made::Min => called(rt, alloc, Fun::Min, a, b),
+        Made::Max => called(rt, alloc, Fun::Max, a, b),
+    }
 }
 
-/// Asserts that `a rel b` is this Boolean.
-fn has_relation(
-    rt: &impl Abort,
-    alloc: Global,
-    rel: Rel,
-    a: bool,
-    b: bool,
-    wanted: bool,
-) -> Result<(), AllocError> {
-    let found = relation(alloc, rel, a, b)?;
-    assert!(rt; found == Ok(Value::Bool(wanted)), "{rel:?} of {a} and {b}");
-    Ok(())
-}
+const DIVIDE: Result<Value, Fail> = Err(Fail::Divide);
 
-const DIVIDE: Result<i64, Fail> = Err(Fail::Divide);
+const LARGE: Result<Value, Fail> = Err(Fail::TooLarge);
 
-const LARGE: Result<i64, Fail> = Err(Fail::TooLarge);
-
-/// Two numbers; their sum, difference and product; `div`, `mod` and `rem` of them; and the least and the greatest.
-type Edge = (
-    i64,
-    i64,
-    [Result<i64, Fail>; 3],
-    [Result<i64, Fail>; 3],
-    [i64; 2],
-);
-
-const EDGES: [Edge; 6] = [
-    (
-        7,
-        -2,
-        [Ok(5), Ok(9), Ok(-14)],
-        [Ok(-3), Ok(-1), Ok(1)],
-        [-2, 7],
-    ),
-    (
-        -7,
-        2,
-        [Ok(-5), Ok(-9), Ok(-14)],
-        [Ok(-3), Ok(1), Ok(-1)],
-        [-7, 2],
-    ),
-    (
-        5,
-        0,
-        [Ok(5), Ok(5), Ok(0)],
-        [DIVIDE, DIVIDE, DIVIDE],
-        [0, 5],
-    ),
-    (
-        i64::MIN,
-        -1,
-        [LARGE, Ok(-i64::MAX), LARGE],
-        [LARGE, Ok(0), Ok(0)],
-        [i64::MIN, -1],
-    ),
-    (
-        i64::MAX,
-        1,
-        [LARGE, Ok(i64::MAX - 1), Ok(i64::MAX)],
-        [Ok(i64::MAX), Ok(0), Ok(0)],
-        [1, i64::MAX],
-    ),
-    (
-        0,
-        i64::MIN,
-        [Ok(i64::MIN), LARGE, Ok(0)],
-        [Ok(0), Ok(0), Ok(0)],
-        [i64::MIN, 0],
-    ),
+const EDGES: [(Made, i64, i64, Result<Value, Fail>); 48] = [
+    (Made::Sum, 7, -2, Ok(Value::Int(5))),
+    (Made::Difference, 7, -2, Ok(Value::Int(9))),
+    (Made::Product, 7, -2, Ok(Value::Int(-14))),
+    (Made::Div, 7, -2, Ok(Value::Int(-3))),
+    (Made::Mod, 7, -2, Ok(Value::Int(-1))),
+    (Made::Rem, 7, -2, Ok(Value::Int(1))),
+    (Made::Min, 7, -2, Ok(Value::Int(-2))),
+    (Made::Max, 7, -2, Ok(Value::Int(7))),
+    (Made::Sum, -7, 2, Ok(Value::Int(-5))),
+    (Made::Difference, -7, 2, Ok(Value::Int(-9))),
+    (Made::Product, -7, 2, Ok(Value::Int(-14))),
+    (Made::Div, -7, 2, Ok(Value::Int(-3))),
+    (Made::Mod, -7, 2, Ok(Value::Int(1))),
+    (Made::Rem, -7, 2, Ok(Value::Int(-1))),
+    (Made::Min, -7, 2, Ok(Value::Int(-7))),
+    (Made::Max, -7, 2, Ok(Value::Int(2))),
+    (Made::Sum, 5, 0, Ok(Value::Int(5))),
+    (Made::Difference, 5, 0, Ok(Value::Int(5))),
+    (Made::Product, 5, 0, Ok(Value::Int(0))),
+    (Made::Div, 5, 0, DIVIDE),
+    (Made::Mod, 5, 0, DIVIDE),
+    (Made::Rem, 5, 0, DIVIDE),
+    (Made::Min, 5, 0, Ok(Value::Int(0))),
+    (Made::Max, 5, 0, Ok(Value::Int(5))),
+    (Made::Sum, i64::MIN, -1, LARGE),
+    (Made::Difference, i64::MIN, -1, Ok(Value::Int(-i64::MAX))),
+    (Made::Product, i64::MIN, -1, LARGE),
+    (Made::Div, i64::MIN, -1, LARGE),
+    (Made::Mod, i64::MIN, -1, Ok(Value::Int(0))),
+    (Made::Rem, i64::MIN, -1, Ok(Value::Int(0))),
+    (Made::Min, i64::MIN, -1, Ok(Value::Int(i64::MIN))),
+    (Made::Max, i64::MIN, -1, Ok(Value::Int(-1))),
+    (Made::Sum, i64::MAX, 1, LARGE),
+    (Made::Difference, i64::MAX, 1, Ok(Value::Int(i64::MAX - 1))),
+    (Made::Product, i64::MAX, 1, Ok(Value::Int(i64::MAX))),
+    (Made::Div, i64::MAX, 1, Ok(Value::Int(i64::MAX))),
+    (Made::Mod, i64::MAX, 1, Ok(Value::Int(0))),
+    (Made::Rem, i64::MAX, 1, Ok(Value::Int(0))),
+    (Made::Min, i64::MAX, 1, Ok(Value::Int(1))),
+    (Made::Max, i64::MAX, 1, Ok(Value::Int(i64::MAX))),
+    (Made::Sum, 0, i64::MIN, Ok(Value::Int(i64::MIN))),
+    (Made::Difference, 0, i64::MIN, LARGE),
+    (Made::Product, 0, i64::MIN, Ok(Value::Int(0))),
+    (Made::Div, 0, i64::MIN, Ok(Value::Int(0))),
+    (Made::Mod, 0, i64::MIN, Ok(Value::Int(0))),
+    (Made::Rem, 0, i64::MIN, Ok(Value::Int(0))),
+    (Made::Min, 0, i64::MIN, Ok(Value::Int(i64::MIN))),
+    (Made::Max, 0, i64::MIN, Ok(Value::Int(0))),
 ];
 
 #[test]
-fn numbers_at_the_edges(rt: HostRuntime) -> Result<(), Failure> {
-    let alloc = rt.alloc();
-    for &(a, b, [plus, minus, times], [quotient, modulus, rest], [least, greatest]) in &EDGES {
-        has_chain(&rt, alloc, ChainOp::Plus, a, b, plus)?;
-        has_chain(&rt, alloc, ChainOp::Minus, a, b, minus)?;
-        has_chain(&rt, alloc, ChainOp::Times, a, b, times)?;
-        has_call(&rt, alloc, Fun::Div, a, b, quotient)?;
-        has_call(&rt, alloc, Fun::Mod, a, b, modulus)?;
-        has_call(&rt, alloc, Fun::Rem, a, b, rest)?;
-        has_call(&rt, alloc, Fun::Min, a, b, Ok(least))?;
-        has_call(&rt, alloc, Fun::Max, a, b, Ok(greatest))?;
+fn numbers_at_the_edges(rt: HostRuntime) {
+    for row in &EDGES {
+        let found = value_made(&rt, rt.alloc(), row.0, row.1, row.2);
+        assert!(rt; found == row.3, "{found:?} of {} and {}", row.1, row.2);
     }
-    Ok(())
 }
 
+const RELATIONS: [(Rel, bool, bool, bool); 9] = [
+    (Rel::Less, false, true, true),
+    (Rel::GreaterEq, false, true, false),
+    (Rel::Equal, false, true, false),
+    (Rel::Less, true, false, false),
+    (Rel::GreaterEq, true, false, true),
+    (Rel::Equal, true, false, false),
+    (Rel::Less, true, true, false),
+    (Rel::GreaterEq, true, true, true),
+    (Rel::Equal, true, true, true),
+];
+
 #[test]
-fn relations_of_booleans(rt: HostRuntime) -> Result<(), Failure> {
-    let alloc = rt.alloc();
-    for &(a, b, less, equal) in &[
-        (false, true, true, false),
-        (true, false, false, false),
-        (true, true, false, true),
-    ] {
-        has_relation(&rt, alloc, Rel::Less, a, b, less)?;
-        has_relation(&rt, alloc, Rel::GreaterEq, a, b, !less)?;
-        has_relation(&rt, alloc, Rel::Equal, a, b, equal)?;
+fn relations_of_booleans(rt: HostRuntime) {
+    for row in &RELATIONS {
+        let found = related(&rt, rt.alloc(), row.0, row.1, row.2);
+        assert!(rt;
+            found == Ok(Value::Bool(row.3)),
+            "{:?} of {} and {}",
+            row.0,
+            row.1,
+            row.2
+        );
     }
-    Ok(())
 }
 
 /// An expression that fails: `div(1, 0)`, or the number below the least with its sign turned.
 #[tactic(auto, using(flat_model::proofs::Values::values, flat_model::proofs::Standings::standings))]
-fn failing(alloc: Global, kind: Fail) -> Result<Expr, AllocError>
-    ensures fails { IfOk result (λ e. (views : Views) → value_of e views ≡ Fails kind) }
-    ensures plain { IfOk result (λ e. (vantage : Vantage) → may_stand e vantage ≡ true) }
+fn failing(rt: &impl Abort, alloc: Global, kind: Fail) -> Expr
+    ensures fails { (views : Views) → value_of result views ≡ Fails kind }
+    ensures plain { (vantage : Vantage) → may_stand result vantage ≡ true }
 {
     match kind {
         Fail::Divide => {
-            let parts = vec![in alloc; Expr::Const(Value::Int(1)), Expr::Const(Value::Int(0))]?;
-            Ok(Expr::Apply(Fun::Div, List::from_vec(parts)))
+            let number = Expr::Const(Value::Int(1));
+            let zero = Expr::Const(Value::Int(0));
+            Expr::Apply(Fun::Div, two(rt, alloc, number, zero))
         }
-        Fail::TooLarge => {
-            let least = Boxed::new(alloc, Expr::Const(Value::Int(i64::MIN)))?;
-            Ok(Expr::Neg(least))
-        }
+        Fail::TooLarge => Expr::Neg(boxed(rt, alloc, Expr::Const(Value::Int(i64::MIN)))),
     }
 }
 
 /// The value of `b op div(1, 0)`.
-fn short_circuit(alloc: Global, b: bool, op: ChainOp) -> Result<Result<Value, Fail>, AllocError> {
-    let failed = failing(alloc, Fail::Divide)?;
-    let parts = vec![in alloc; Expr::Const(Value::Bool(b)), failed]?;
-    let ops = vec![in alloc; op]?;
-    let expr = Expr::Chain(List::from_vec(parts), List::from_vec(ops));
-    Ok(eval(&expr, &at_moment()))
+fn short_circuit(rt: &impl Abort, alloc: Global, b: bool, op: ChainOp) -> Result<Value, Fail> {
+    let failed = failing(rt, alloc, Fail::Divide);
+    let whole = chain(rt, alloc, op, Expr::Const(Value::Bool(b)), failed);
+    value(whole, &at_moment())
 }
 
 /// The value of `if b then div(1, 0) else 2`.
 #[tactic(auto, using(flat_model::proofs::Values::values, flat_model::proofs::Standings::standings))]
-fn choice(alloc: Global, b: bool) -> Result<Result<Value, Fail>, AllocError> {
-    let conditions = vec![in alloc; Expr::Const(Value::Bool(b))]?;
-    let branches = vec![in alloc; failing(alloc, Fail::Divide)?]?;
-    let other = Boxed::new(alloc, Expr::Const(Value::Int(2)))?;
-    let expr = Expr::If(List::from_vec(conditions), List::from_vec(branches), other);
-    Ok(eval(&expr, &at_moment()))
+fn choice(rt: &impl Abort, alloc: Global, b: bool) -> Result<Value, Fail> {
+    let conditions = one(rt, alloc, Expr::Const(Value::Bool(b)));
+    let branches = one(rt, alloc, failing(rt, alloc, Fail::Divide));
+    let other = boxed(rt, alloc, Expr::Const(Value::Int(2)));
+    value(Expr::If(conditions, branches, other), &at_moment())
 }
 
 /// The value of the sum of two expressions that fail.
-fn two_failures(
-    alloc: Global,
-    first: Fail,
-    second: Fail,
-) -> Result<Result<Value, Fail>, AllocError> {
-    let left = failing(alloc, first)?;
-    let right = failing(alloc, second)?;
-    let parts = vec![in alloc; left, right]?;
-    let ops = vec![in alloc; ChainOp::Plus]?;
-    let expr = Expr::Chain(List::from_vec(parts), List::from_vec(ops));
-    Ok(eval(&expr, &at_moment()))
+fn two_failures(rt: &impl Abort, alloc: Global, first: Fail, second: Fail) -> Result<Value, Fail> {
+    let left = failing(rt, alloc, first);
+    let right = failing(rt, alloc, second);
+    let whole = chain(rt, alloc, ChainOp::Plus, left, right);
+    value(whole, &at_moment())
 }
 
+const SHORT_CIRCUITS: [(bool, ChainOp, Result<Value, Fail>); 4] = [
+    (true, ChainOp::Or, Ok(Value::Bool(true))),
+    (false, ChainOp::Or, DIVIDE),
+    (false, ChainOp::And, Ok(Value::Bool(false))),
+    (true, ChainOp::And, DIVIDE),
+];
+
 #[test]
-fn only_what_is_needed(rt: HostRuntime) -> Result<(), Failure> {
-    const DIVIDE: Result<Value, Fail> = Err(Fail::Divide);
-    const LARGE: Result<Value, Fail> = Err(Fail::TooLarge);
+fn only_what_is_needed(rt: HostRuntime) {
     let alloc = rt.alloc();
-    assert!(rt; short_circuit(alloc, true, ChainOp::Or)? == Ok(Value::Bool(true)));
-    assert!(rt; short_circuit(alloc, false, ChainOp::Or)? == DIVIDE);
-    assert!(rt; short_circuit(alloc, false, ChainOp::And)? == Ok(Value::Bool(false)));
-    assert!(rt; short_circuit(alloc, true, ChainOp::And)? == DIVIDE);
-    assert!(rt; choice(alloc, false)? == Ok(Value::Int(2)));
-    assert!(rt; choice(alloc, true)? == DIVIDE);
-    assert!(rt; two_failures(alloc, Fail::Divide, Fail::TooLarge)? == DIVIDE);
-    assert!(rt; two_failures(alloc, Fail::TooLarge, Fail::Divide)? == LARGE);
-    Ok(())
+    for row in &SHORT_CIRCUITS {
+        let found = short_circuit(&rt, alloc, row.0, row.1);
+        assert!(rt; found == row.2, "{:?} behind {}", row.1, row.0);
+    }
+    assert!(rt; choice(&rt, alloc, false) == Ok(Value::Int(2)));
+    assert!(rt; choice(&rt, alloc, true) == DIVIDE);
+    assert!(rt; two_failures(&rt, alloc, Fail::Divide, Fail::TooLarge) == DIVIDE);
+    assert!(rt; two_failures(&rt, alloc, Fail::TooLarge, Fail::Divide) == LARGE);
 }
 
 /// The value of `sample` of a name.
-fn sampled(alloc: Global, name: u32) -> Result<Result<Value, Fail>, AllocError> {
-    let part = Boxed::new(alloc, Expr::Read(name))?;
-    Ok(eval(&Expr::Sample(part, None), &at_moment()))
+fn sampled(rt: &impl Abort, alloc: Global, name: u32) -> Result<Value, Fail> {
+    let part = boxed(rt, alloc, Expr::Read(name));
+    value(Expr::Sample(part, None), &at_moment())
 }
 
 #[test]
 #[tactic(auto, using(flat_model::proofs::Values::values, flat_model::proofs::Standings::standings))]
-fn names_from_a_moment(rt: HostRuntime) -> Result<(), Failure> {
+fn names_from_a_moment(rt: HostRuntime) {
     let values = at_moment();
-    assert!(rt; eval(&Expr::Read(7), &values) == Ok(Value::Int(7)));
-    assert!(rt; eval(&Expr::Previous(7), &values) == Ok(Value::Int(107)));
-    assert!(rt; eval(&Expr::Hold(7), &values) == Ok(Value::Int(207)));
-    assert!(rt; eval(&Expr::Convert(Conversion::NoClock, 7), &values) == Ok(Value::Int(207)));
-    assert!(rt; sampled(rt.alloc(), 7)? == Ok(Value::Int(1007)));
-    assert!(rt; eval(&Expr::FirstTick(None), &values) == Ok(Value::Bool(false)));
-    assert!(rt; eval(&Expr::IntervalTimes(None, 3), &values) == Ok(Value::Int(4)));
+    assert!(rt; value(Expr::Read(7), &values) == Ok(Value::Int(7)));
+    assert!(rt; value(Expr::Previous(7), &values) == Ok(Value::Int(107)));
+    assert!(rt; value(Expr::Hold(7), &values) == Ok(Value::Int(207)));
+    assert!(rt; value(Expr::Convert(Conversion::NoClock, 7), &values) == Ok(Value::Int(207)));
+    assert!(rt; sampled(&rt, rt.alloc(), 7) == Ok(Value::Int(1007)));
+    assert!(rt; value(Expr::FirstTick(None), &values) == Ok(Value::Bool(false)));
+    assert!(rt; value(Expr::IntervalTimes(None, 3), &values) == Ok(Value::Int(4)));
     tick_law();
-    Ok(())
 }

@@ -6,9 +6,9 @@ use rational_time::{
     Ratio, RatioFault, compare, floor_between, floor_times, gcd, lcm, make, moved, on_grid, plus,
     read, scaled, share_instant, ticks_until,
 };
+use std::alloc::Global;
 use std::cmp::Ordering;
 use std::process::Abort;
-use std::test::Fail;
 
 type Parts = (u64, u64);
 
@@ -60,62 +60,84 @@ fn is_fraction(found: Option<Ratio>, wanted: Option<Parts>) -> bool {
     }
 }
 
+const SUMS: [(Parts, Parts, Option<Parts>); 3] = [
+    ((1, 3), (1, 6), Some((1, 2))),
+    (
+        (1, 4_294_967_291),
+        (1, 4_294_967_279),
+        Some((8_589_934_570, 18_446_743_979_220_271_189)),
+    ),
+    ((1, 4_294_967_311), (1, 4_294_967_357), None),
+];
+
+const SCALED: [(Parts, u32, u32, Option<Parts>); 4] = [
+    ((2, 3), 3, 4, Some((1, 2))),
+    ((u64::MAX, 1), 2, 2, Some((u64::MAX, 1))),
+    ((u64::MAX, 1), 2, 1, None),
+    ((5, 3), 0, 7, Some((0, 1))),
+];
+
+fn is_sum(rt: &impl Abort, a: Parts, b: Parts, wanted: Option<Parts>) -> bool {
+    let a = ratio(rt, a);
+    let b = ratio(rt, b);
+    assert!(rt; a.num() < 1 << 62 && b.num() < 1 << 62);
+    assert!(rt; a.den() < 1 << 62 && b.den() < 1 << 62);
+    is_fraction(plus(a, b), wanted)
+}
+
+fn is_scaled(rt: &impl Abort, a: Parts, times: u32, over: u32, wanted: Option<Parts>) -> bool {
+    assert!(rt; over > 0);
+    is_fraction(scaled(ratio(rt, a), times, over), wanted)
+}
+
 #[test]
 fn fractions_are_exact(rt: HostRuntime) {
-    for &(a, b, wanted) in &[
-        ((1, 3), (1, 6), Some((1, 2))),
-        (
-            (1, 4_294_967_291),
-            (1, 4_294_967_279),
-            Some((8_589_934_570, 18_446_743_979_220_271_189)),
-        ),
-        ((1, 4_294_967_311), (1, 4_294_967_357), None),
-    ] {
-        let a = ratio(&rt, a);
-        let b = ratio(&rt, b);
-        assert!(rt; a.num() < 1 << 62 && b.num() < 1 << 62);
-        assert!(rt; a.den() < 1 << 62 && b.den() < 1 << 62);
-        assert!(rt; is_fraction(plus(a, b), wanted));
+    for row in &SUMS {
+        assert!(rt; is_sum(&rt, row.0, row.1, row.2));
     }
-    for &(a, times, over, wanted) in &[
-        ((2, 3), 3, 4, Some((1, 2))),
-        ((u64::MAX, 1), 2, 2, Some((u64::MAX, 1))),
-        ((u64::MAX, 1), 2, 1, None),
-        ((5, 3), 0, 7, Some((0, 1))),
-    ] {
-        assert!(rt; over > 0);
-        assert!(rt; is_fraction(scaled(ratio(&rt, a), times, over), wanted));
+    for row in &SCALED {
+        assert!(rt; is_scaled(&rt, row.0, row.1, row.2, row.3));
     }
+}
+
+const COMPARED: [(Parts, Parts, Ordering); 4] = [
+    ((1, 3), (2, 5), Ordering::Less),
+    ((2, 6), (1, 3), Ordering::Equal),
+    (
+        (u64::MAX, u64::MAX - 1),
+        (u64::MAX - 1, u64::MAX - 2),
+        Ordering::Less,
+    ),
+    ((2, 1), (3, 2), Ordering::Greater),
+];
+
+const DIVISORS: [(u64, u64, u64); 4] = [(0, 0, 0), (0, 7, 7), (12, 18, 6), (u64::MAX, 1, 1)];
+
+const MULTIPLES: [(u64, u64, Option<u64>); 3] = [
+    (4, 6, Some(12)),
+    (u64::MAX, u64::MAX, Some(u64::MAX)),
+    (1 << 63, 3, None),
+];
+
+fn is_multiple(rt: &impl Abort, a: u64, b: u64, multiple: Option<u64>) -> bool {
+    assert!(rt; a > 0 && b > 0);
+    lcm(a, b) == multiple
 }
 
 #[test]
 fn fractions_are_compared(rt: HostRuntime) {
-    for &(a, b, wanted) in &[
-        ((1, 3), (2, 5), Ordering::Less),
-        ((2, 6), (1, 3), Ordering::Equal),
-        (
-            (u64::MAX, u64::MAX - 1),
-            (u64::MAX - 1, u64::MAX - 2),
-            Ordering::Less,
-        ),
-        ((2, 1), (3, 2), Ordering::Greater),
-    ] {
-        assert!(rt; compare(ratio(&rt, a), ratio(&rt, b)) == wanted);
+    for row in &COMPARED {
+        assert!(rt; compare(ratio(&rt, row.0), ratio(&rt, row.1)) == row.2);
     }
 }
 
 #[test]
 fn divisors_and_multiples(rt: HostRuntime) {
-    for &(a, b, divisor) in &[(0, 0, 0), (0, 7, 7), (12, 18, 6), (u64::MAX, 1, 1)] {
-        assert_eq!(rt; gcd(a, b), divisor);
+    for row in &DIVISORS {
+        assert!(rt; gcd(row.0, row.1) == row.2);
     }
-    for &(a, b, multiple) in &[
-        (4, 6, Some(12)),
-        (u64::MAX, u64::MAX, Some(u64::MAX)),
-        (1 << 63, 3, None),
-    ] {
-        assert!(rt; a > 0 && b > 0);
-        assert!(rt; lcm(a, b) == multiple);
+    for row in &MULTIPLES {
+        assert!(rt; is_multiple(&rt, row.0, row.1, row.2));
     }
 }
 
@@ -127,114 +149,140 @@ fn is_read(text: &str, wanted: Result<Parts, RatioFault>) -> bool {
     }
 }
 
+const MALFORMED: Result<Parts, RatioFault> = Err(RatioFault::Malformed);
+
+const TOO_FINE: Result<Parts, RatioFault> = Err(RatioFault::TooFine);
+
+const TIMES: [(&str, Result<Parts, RatioFault>); 24] = [
+    ("0", Ok((0, 1))),
+    ("01", Ok((1, 1))),
+    ("3/2", Ok((3, 2))),
+    ("6/4", Ok((3, 2))),
+    ("0.6", Ok((3, 5))),
+    ("0.000000001", Ok((1, 1_000_000_000))),
+    ("1048576", Ok((1_048_576, 1))),
+    ("999999999999999999", Ok((999_999_999_999_999_999, 1))),
+    ("2/8589934590", Ok((1, 4_294_967_295))),
+    ("230584300921369394.8", Ok((1_152_921_504_606_846_974, 5))),
+    ("1/4294967296", TOO_FINE),
+    ("230584300921369395.2", TOO_FINE),
+    ("", MALFORMED),
+    ("1/0", MALFORMED),
+    ("0.0000000001", MALFORMED),
+    ("1000000000000000000", MALFORMED),
+    ("1.", MALFORMED),
+    (".5", MALFORMED),
+    ("/2", MALFORMED),
+    ("-1", MALFORMED),
+    (" 1", MALFORMED),
+    ("1/2/3", MALFORMED),
+    ("1.5/2", MALFORMED),
+    ("1e3", MALFORMED),
+];
+
+const WRITTEN: [(Parts, &str); 3] = [((6, 4), "3/2"), ((7, 1), "7"), ((0, 9), "0")];
+
+fn is_written(rt: &impl Abort, alloc: Global, a: Parts, text: &str) -> bool {
+    let written = ratio(rt, a).to_string(alloc).expect(rt, "memory");
+    written.as_str() == text
+}
+
 #[test]
-fn times_are_read_and_written(rt: HostRuntime) -> Result<(), Fail> {
-    const MALFORMED: Result<Parts, RatioFault> = Err(RatioFault::Malformed);
-    const TOO_FINE: Result<Parts, RatioFault> = Err(RatioFault::TooFine);
-    for &(text, wanted) in &[
-        ("0", Ok((0, 1))),
-        ("01", Ok((1, 1))),
-        ("3/2", Ok((3, 2))),
-        ("6/4", Ok((3, 2))),
-        ("0.6", Ok((3, 5))),
-        ("0.000000001", Ok((1, 1_000_000_000))),
-        ("1048576", Ok((1_048_576, 1))),
-        ("999999999999999999", Ok((999_999_999_999_999_999, 1))),
-        ("2/8589934590", Ok((1, 4_294_967_295))),
-        ("230584300921369394.8", Ok((1_152_921_504_606_846_974, 5))),
-        ("1/4294967296", TOO_FINE),
-        ("230584300921369395.2", TOO_FINE),
-        ("", MALFORMED),
-        ("1/0", MALFORMED),
-        ("0.0000000001", MALFORMED),
-        ("1000000000000000000", MALFORMED),
-        ("1.", MALFORMED),
-        (".5", MALFORMED),
-        ("/2", MALFORMED),
-        ("-1", MALFORMED),
-        (" 1", MALFORMED),
-        ("1/2/3", MALFORMED),
-        ("1.5/2", MALFORMED),
-        ("1e3", MALFORMED),
-    ] {
-        assert!(rt; is_read(text, wanted), "at {text}");
+fn times_are_read_and_written(rt: HostRuntime) {
+    for row in &TIMES {
+        assert!(rt; is_read(row.0, row.1), "at {}", row.0);
     }
-    for &(a, text) in &[((6, 4), "3/2"), ((7, 1), "7"), ((0, 9), "0")] {
-        let written = format!(in rt.alloc(); "{}", ratio(&rt, a))?;
-        assert_eq!(rt; written.as_str(), text);
+    for row in &WRITTEN {
+        assert!(rt; is_written(&rt, rt.alloc(), row.0, row.1));
     }
-    Ok(())
+}
+
+const FLOORS: [(Parts, u32, u128); 3] = [((7, 2), 3, 10), ((1, 3), 2, 0), ((1, 3), 3, 1)];
+
+const FLOORS_BETWEEN: [(Parts, Parts, u32, u128); 4] = [
+    ((1, 3), (5, 2), 6, 13),
+    ((1, 3), (1, 2), 5, 0),
+    ((1, 2), (1, 2), 9, 0),
+    ((0, 1), (1_048_575, 1), u32::MAX, 4_503_595_331_354_625),
+];
+
+const GRIDS: [(Parts, u64, Option<u64>); 4] = [
+    ((3, 2), 4, Some(6)),
+    ((1, 3), 4, None),
+    ((u64::MAX, 1), 2, None),
+    ((0, 1), 5, Some(0)),
+];
+
+fn is_floor_between(rt: &impl Abort, from: Parts, to: Parts, k: u32, wanted: u128) -> bool {
+    let from = instant(rt, from);
+    let to = instant(rt, to);
+    let left = u128::from(from.num()) * u128::from(to.den());
+    assert!(rt; left <= u128::from(to.num()) * u128::from(from.den()));
+    floor_between(from, to, k) == wanted
+}
+
+fn is_on_grid(rt: &impl Abort, value: Parts, den: u64, wanted: Option<u64>) -> bool {
+    assert!(rt; den > 0);
+    on_grid(ratio(rt, value), den) == wanted
 }
 
 #[test]
 fn floors_and_grids(rt: HostRuntime) {
-    for &(a, k, wanted) in &[((7, 2), 3, 10), ((1, 3), 2, 0), ((1, 3), 3, 1)] {
-        assert_eq!(rt; floor_times(ratio(&rt, a), k), wanted);
+    for row in &FLOORS {
+        assert!(rt; floor_times(ratio(&rt, row.0), row.1) == row.2);
     }
-    for &(from, to, k, wanted) in &[
-        ((1, 3), (5, 2), 6, 13),
-        ((1, 3), (1, 2), 5, 0),
-        ((1, 2), (1, 2), 9, 0),
-        ((0, 1), (1_048_575, 1), u32::MAX, 4_503_595_331_354_625),
-    ] {
-        let from = instant(&rt, from);
-        let to = instant(&rt, to);
-        let left = u128::from(from.num()) * u128::from(to.den());
-        assert!(rt; left <= u128::from(to.num()) * u128::from(from.den()));
-        assert_eq!(rt; floor_between(from, to, k), wanted);
+    for row in &FLOORS_BETWEEN {
+        assert!(rt; is_floor_between(&rt, row.0, row.1, row.2, row.3));
     }
-    for &(value, den, wanted) in &[
-        ((3, 2), 4, Some(6)),
-        ((1, 3), 4, None),
-        ((u64::MAX, 1), 2, None),
-        ((0, 1), 5, Some(0)),
-    ] {
-        assert!(rt; den > 0);
-        assert!(rt; on_grid(ratio(&rt, value), den) == wanted);
+    for row in &GRIDS {
+        assert!(rt; is_on_grid(&rt, row.0, row.1, row.2));
+    }
+}
+
+/// A start with its sign, a step, the three numbers of a move, and the start that it gives with its sign.
+type Move = (Parts, bool, Parts, u32, u32, bool, Option<(Parts, bool)>);
+
+const MOVES: [Move; 6] = [
+    ((1, 2), false, (1, 3), 1, 1, false, Some(((5, 6), false))),
+    ((1, 2), false, (1, 3), 2, 1, true, Some(((1, 6), true))),
+    ((1, 2), true, (1, 2), 1, 1, false, Some(((0, 1), false))),
+    ((1, 2), true, (1, 3), 3, 2, true, Some(((1, 1), true))),
+    ((0, 1), true, (1, 3), 0, 2, true, Some(((0, 1), false))),
+    ((1, WIDE), false, (1, WIDE - 2), 1, 1, false, None),
+];
+
+fn is_moved(rt: &impl Abort, row: &Move) -> bool {
+    let (start, negative, step, k, r, back, wanted) = *row;
+    assert!(rt; r > 0);
+    let found = moved(short(rt, start), negative, short(rt, step), k, r, back);
+    match (found, wanted) {
+        (Some(m), Some((start, below))) => has_parts(m.start, start) && m.negative == below,
+        (None, None) => true,
+        _ => false,
     }
 }
 
 #[test]
 fn starts_are_moved(rt: HostRuntime) {
-    let wide = (1, (1 << 40) - 1);
-    for &(start, negative, step, k, r, back, wanted) in &[
-        ((1, 2), false, (1, 3), 1, 1, false, Some((5, 6, false))),
-        ((1, 2), false, (1, 3), 2, 1, true, Some((1, 6, true))),
-        ((1, 2), true, (1, 2), 1, 1, false, Some((0, 1, false))),
-        ((1, 2), true, (1, 3), 3, 2, true, Some((1, 1, true))),
-        ((0, 1), true, (1, 3), 0, 2, true, Some((0, 1, false))),
-        (wide, false, (1, (1 << 40) - 3), 1, 1, false, None),
-    ] {
-        assert!(rt; r > 0);
-        let result = moved(short(&rt, start), negative, short(&rt, step), k, r, back);
-        let holds = match (result, wanted) {
-            (Some(m), Some((num, den, below))) => {
-                has_parts(m.start, (num, den)) && m.negative == below
-            }
-            (None, None) => true,
-            _ => false,
-        };
-        assert!(rt; holds);
+    for row in &MOVES {
+        assert!(rt; is_moved(&rt, row));
     }
 }
 
+const TICKS: [(Parts, Parts, Parts, u128); 6] = [
+    ((1, 10), (0, 1), (1, 1), 11),
+    ((1, 10), (1, 20), (1, 1), 10),
+    ((1, 10), (2, 1), (1, 1), 0),
+    ((3, 1), (0, 1), (0, 1), 1),
+    ((2, 3), (1, 2), (5, 2), 4),
+    ((1, WIDE), (0, 1), (1_048_575, 1), 1_152_920_405_094_170_626),
+];
+
 #[test]
 fn ticks_are_counted(rt: HostRuntime) {
-    for &(step, start, stop, wanted) in &[
-        ((1, 10), (0, 1), (1, 1), 11),
-        ((1, 10), (1, 20), (1, 1), 10),
-        ((1, 10), (2, 1), (1, 1), 0),
-        ((3, 1), (0, 1), (0, 1), 1),
-        ((2, 3), (1, 2), (5, 2), 4),
-        (
-            (1, (1 << 40) - 1),
-            (0, 1),
-            (1_048_575, 1),
-            1_152_920_405_094_170_626,
-        ),
-    ] {
-        let count = ticks_until(period(&rt, step), short(&rt, start), instant(&rt, stop));
-        assert_eq!(rt; count, wanted);
+    for row in &TICKS {
+        let count = ticks_until(period(&rt, row.0), short(&rt, row.1), instant(&rt, row.2));
+        assert!(rt; count == row.3);
     }
 }
 
@@ -279,9 +327,9 @@ const SHARED: [(Parts, Parts, Parts, Parts, bool); 11] = [
 
 #[test]
 fn clocks_share_instants(rt: HostRuntime) {
-    for &(p, s, q, r, wanted) in &SHARED {
-        let shared = share(&rt, p, s, q, r);
-        assert!(rt; shared == wanted, "at {}/{} and {}/{}", p.0, p.1, r.0, r.1);
+    for row in &SHARED {
+        let shared = share(&rt, row.0, row.1, row.2, row.3);
+        assert!(rt; shared == row.4, "at {row:?}");
     }
 }
 
@@ -302,14 +350,23 @@ fn meet_early(p: u64, s: u64, q: u64, r: u64) -> bool
     false
 }
 
+fn is_shared_as_defined(rt: &impl Abort, p: u64, s: u64, q: u64, r: u64) -> bool
+    requires p { p < 8 }
+    requires s { s < 8 }
+    requires q { q < 8 }
+    requires r { r < 8 }
+{
+    share(rt, (p, 2), (s, 3), (q, 3), (r, 2)) == meet_early(p, s, q, r)
+}
+
 #[test]
 fn shared_instants_are_those_of_the_definition(rt: HostRuntime) {
     for p in 1..4 {
         for s in 0..4 {
             for q in 1..4 {
                 for r in 0..4 {
-                    let shared = share(&rt, (p, 2), (s, 3), (q, 3), (r, 2));
-                    assert_eq!(rt; shared, meet_early(p, s, q, r), "at {p} {s} {q} {r}");
+                    let holds = is_shared_as_defined(&rt, p, s, q, r);
+                    assert!(rt; holds, "at {p} {s} {q} {r}");
                 }
             }
         }

@@ -1,18 +1,14 @@
+use crate::trees::parsed;
 use flat_model::{ClockExpr, Equation, Expr, FlatName, NameKind};
-use mo_lexer::lex;
-use mo_parser::parse;
 use one_clock::{FormEnd, OneClock, one_clock};
 use std::alloc::Global;
+use std::process::Abort;
 use sync_values::Value;
 
-// What a text that lexes and parses gives.
-fn told(alloc: Global, text: &[u8]) -> Option<Result<OneClock, FormEnd>> {
-    if text.len() > 1 << 20 {
-        return None;
-    }
-    let tokens = lex(alloc, text).ok()?;
-    let tree = parse(alloc, text, &tokens).ok()?;
-    Some(one_clock(alloc, text, &tree))
+// What a text that has a tree gives.
+fn told(rt: &impl Abort, alloc: Global, text: &[u8]) -> Result<OneClock, FormEnd> {
+    let tree = parsed(rt, alloc, text).expect(rt, "a tree");
+    one_clock(alloc, text, &tree)
 }
 
 const TAKEN: [&str; 4] = [
@@ -54,19 +50,12 @@ const NOT_BUILT: [&str; 26] = [
 #[test]
 fn takes_the_form(rt: HostRuntime) {
     for text in &TAKEN {
-        assert!(rt;
-            matches!(told(rt.alloc(), text.as_bytes()), Some(Ok(_))),
-            "{text}"
-        );
+        let end = told(&rt, rt.alloc(), text.as_bytes()).err();
+        assert!(rt; end.is_none(), "{text}");
     }
     for text in &NOT_BUILT {
-        assert!(rt;
-            matches!(
-                told(rt.alloc(), text.as_bytes()),
-                Some(Err(FormEnd::NotBuilt))
-            ),
-            "{text}"
-        );
+        let end = told(&rt, rt.alloc(), text.as_bytes()).err();
+        assert!(rt; end == Some(FormEnd::NotBuilt), "{text}");
     }
 }
 
@@ -114,15 +103,19 @@ fn has_two_equations(equations: &[Equation]) -> bool {
     }
 }
 
+fn is_told(told: &OneClock) -> bool {
+    told.counter == 5
+        && told.resolution == 2
+        && has_two_names(told.model.names.as_slice())
+        && has_two_equations(told.model.equations.as_slice())
+        && matches!(told.model.clauses.as_slice(), [ClockExpr::Rational(5, 2)])
+}
+
+const TWO_NAMES: &[u8] =
+    b"model M Integer a(start = -3); Boolean b; equation when Clock(5, 2) then b = previous(a) < 4; a = 7; end when; end M;";
+
 #[test]
 fn tells_names_and_equations(rt: HostRuntime) {
-    let text =
-        b"model M Integer a(start = -3); Boolean b; equation when Clock(5, 2) then b = previous(a) < 4; a = 7; end when; end M;";
-    let Some(Ok(told)) = told(rt.alloc(), text) else {
-        panic!(rt; "the text has the form");
-    };
-    assert!(rt; told.counter == 5 && told.resolution == 2);
-    assert!(rt; has_two_names(told.model.names.as_slice()));
-    assert!(rt; has_two_equations(told.model.equations.as_slice()));
-    assert!(rt; matches!(told.model.clauses.as_slice(), [ClockExpr::Rational(5, 2)]));
+    let told = told(&rt, rt.alloc(), TWO_NAMES).expect(&rt, "the text has the form");
+    assert!(rt; is_told(&told));
 }

@@ -1,38 +1,37 @@
 use mo_lexer::TokenKind::{End, Ident, Integer, Keyword, Real, Symbol};
-use mo_lexer::{LexCode, LexEnd, Sym, TokenKind, Word, lex, tokens_law};
+use mo_lexer::{LexCode, LexEnd, Sym, Token, TokenKind, Word, lex, tokens_law};
 use std::alloc::Global;
 use std::process::Abort;
-use std::test::Fail;
+use sync_values::List;
 
 const LIMIT: usize = 1 << 20;
 
 /// A kind with its first byte and the byte behind it.
 type Place = (TokenKind, u32, u32);
 
-fn has_tokens(rt: &impl Abort, alloc: Global, text: &[u8], wanted: &[Place]) -> Result<(), Fail> {
+/// The tokens of a text, or how it ends.
+pub fn lexed(rt: &impl Abort, alloc: Global, text: &[u8]) -> Result<List<Token>, LexEnd> {
     assert!(rt; text.len() <= LIMIT);
-    let tokens = lex(alloc, text)?;
-    assert_eq!(rt; tokens.len(), wanted.len(), "at {text:?}");
-    for (token, place) in tokens.as_slice().iter().zip(wanted) {
-        let (kind, at, end) = *place;
-        let holds = token.kind == kind && token.at == at && token.end == end;
-        assert!(rt; holds, "at {text:?}");
+    lex(alloc, text)
+}
+
+fn are_places(tokens: &[Token], wanted: &[Place]) -> bool {
+    for (token, place) in tokens.iter().zip(wanted) {
+        if token.kind != place.0 || token.at != place.1 || token.end != place.2 {
+            return false;
+        }
     }
-    Ok(())
+    tokens.len() == wanted.len()
+}
+
+fn has_tokens(rt: &impl Abort, alloc: Global, text: &[u8], wanted: &[Place]) {
+    let tokens = lexed(rt, alloc, text).expect(rt, "a text of tokens");
+    assert!(rt; are_places(tokens.as_slice(), wanted), "at {text:?}");
 }
 
 fn has_fault(rt: &impl Abort, alloc: Global, text: &[u8], code: LexCode, at: u32) {
-    assert!(rt; text.len() <= LIMIT);
-    let holds = match lex(alloc, text) {
-        Err(
-            LexEnd::Fault {
-                code: found,
-                at: place,
-            },
-        ) => found == code && place == at,
-        _ => false,
-    };
-    assert!(rt; holds, "at {text:?}");
+    let end = lexed(rt, alloc, text).err();
+    assert!(rt; end == Some(LexEnd::Fault { code, at }), "at {text:?}");
 }
 
 const TEXTS: [(&[u8], &[Place]); 22] = [
@@ -113,69 +112,88 @@ const TEXTS: [(&[u8], &[Place]); 22] = [
     ),
 ];
 
-#[test]
-fn tokens_of_texts(rt: HostRuntime) -> Result<(), Fail> {
-    for &(text, wanted) in &TEXTS {
-        has_tokens(&rt, rt.alloc(), text, wanted)?;
+fn have_tokens(rt: &impl Abort, alloc: Global, rows: &[(&[u8], &[Place])]) {
+    for row in rows {
+        has_tokens(rt, alloc, row.0, row.1);
     }
-    tokens_law(b"x");
-    Ok(())
 }
+
+#[test]
+fn tokens_of_texts(rt: HostRuntime) {
+    have_tokens(&rt, rt.alloc(), &TEXTS);
+}
+
+#[test]
+fn tokens_follow_their_law() {
+    tokens_law(b"x");
+}
+
+const FAULTS: [(&[u8], LexCode, u32); 14] = [
+    (b"model M\n/* x\nend M;", LexCode::L2, 8),
+    (b"model M @ end M;", LexCode::L1, 8),
+    (b"model M Integer x = 9223372036854775808;", LexCode::L3, 20),
+    (b"/* /* */ */ x @", LexCode::L1, 14),
+    (b"a /*/", LexCode::L2, 2),
+    (b"\"ab", LexCode::L2, 0),
+    (b"\"ab\\", LexCode::L2, 0),
+    (b"a \"\\\"", LexCode::L2, 2),
+    (b"\xEF\xBB\xBF\xEF\xBB\xBF", LexCode::L1, 3),
+    (b"a\xEF\xBB\xBF", LexCode::L1, 1),
+    (b"\xEF\xBB", LexCode::L1, 0),
+    (b"@ \"", LexCode::L1, 0),
+    (b"\" @", LexCode::L2, 0),
+    (b"9223372036854775808 @", LexCode::L3, 0),
+];
 
 #[test]
 fn faults_of_texts(rt: HostRuntime) {
-    let cases: [(&[u8], LexCode, u32); 14] = [
-        (b"model M\n/* x\nend M;", LexCode::L2, 8),
-        (b"model M @ end M;", LexCode::L1, 8),
-        (b"model M Integer x = 9223372036854775808;", LexCode::L3, 20),
-        (b"/* /* */ */ x @", LexCode::L1, 14),
-        (b"a /*/", LexCode::L2, 2),
-        (b"\"ab", LexCode::L2, 0),
-        (b"\"ab\\", LexCode::L2, 0),
-        (b"a \"\\\"", LexCode::L2, 2),
-        (b"\xEF\xBB\xBF\xEF\xBB\xBF", LexCode::L1, 3),
-        (b"a\xEF\xBB\xBF", LexCode::L1, 1),
-        (b"\xEF\xBB", LexCode::L1, 0),
-        (b"@ \"", LexCode::L1, 0),
-        (b"\" @", LexCode::L2, 0),
-        (b"9223372036854775808 @", LexCode::L3, 0),
-    ];
-    for &(text, code, at) in &cases {
-        has_fault(&rt, rt.alloc(), text, code, at);
+    for row in &FAULTS {
+        has_fault(&rt, rt.alloc(), row.0, row.1, row.2);
     }
 }
 
 #[test]
-fn limits(rt: HostRuntime) -> Result<(), Fail> {
-    let mut name = vec![in rt.alloc(); b'a'; 128]?;
-    has_tokens(&rt, rt.alloc(), &name, &[(Ident, 0, 128), (End, 128, 128)])?;
-    name.push(b'1')?;
+fn limits_of_names(rt: HostRuntime) {
+    let mut name = vec![in rt.alloc(); b'a'; 128].expect(&rt, "memory");
+    has_tokens(&rt, rt.alloc(), &name, &[(Ident, 0, 128), (End, 128, 128)]);
+    name.push(b'1').expect(&rt, "memory");
     has_fault(&rt, rt.alloc(), &name, LexCode::L4, 0);
-    let mut digits = vec![in rt.alloc(); b'9'; 400]?;
-    has_fault(&rt, rt.alloc(), &digits, LexCode::L3, 0);
-    digits.push(b'.')?;
-    has_tokens(&rt, rt.alloc(), &digits, &[(Real, 0, 401), (End, 401, 401)])
 }
 
 #[test]
-fn every_second_byte(rt: HostRuntime) -> Result<(), Fail> {
-    let of_words = b"ABCDEFGHIJKLMNOPQRSTUVWXYZ_abcdefghijklmnopqrstuvwxyz0123456789";
-    for byte in 0..=255u8 {
-        let text = [b'm', byte, b' '];
-        match byte {
-            b'"' => has_fault(&rt, rt.alloc(), &text, LexCode::L2, 1),
-            b' ' | b'\t' | b'\n' | b'\r' => {
-                has_tokens(&rt, rt.alloc(), &text, &[(Ident, 0, 1), (End, 3, 3)])?;
-            }
-            _ if of_words.contains(&byte) => {
-                has_tokens(&rt, rt.alloc(), &text, &[(Ident, 0, 2), (End, 3, 3)])?;
-            }
-            _ if b"(){}[],;:.=<>+-*/^".contains(&byte) => {
-                let tokens = lex(rt.alloc(), &text)?;
-                assert_eq!(rt; tokens.len(), 3, "at {byte}");
-            }
-            _ => has_fault(&rt, rt.alloc(), &text, LexCode::L1, 1),
+fn limits_of_numbers(rt: HostRuntime) {
+    let mut digits = vec![in rt.alloc(); b'9'; 400].expect(&rt, "memory");
+    has_fault(&rt, rt.alloc(), &digits, LexCode::L3, 0);
+    digits.push(b'.').expect(&rt, "memory");
+    has_tokens(&rt, rt.alloc(), &digits, &[(Real, 0, 401), (End, 401, 401)]);
+}
+
+const OF_WORDS: &[u8] = b"ABCDEFGHIJKLMNOPQRSTUVWXYZ_abcdefghijklmnopqrstuvwxyz0123456789";
+
+const SYMBOLS: &[u8] = b"(){}[],;:.=<>+-*/^";
+
+fn has_second_byte(rt: &impl Abort, alloc: Global, byte: u8) {
+    let text = [b'm', byte, b' '];
+    match byte {
+        b'"' => has_fault(rt, alloc, &text, LexCode::L2, 1),
+        b' ' | b'\t' | b'\n' | b'\r' => has_tokens(rt, alloc, &text, &[(Ident, 0, 1), (End, 3, 3)]),
+        _ if OF_WORDS.contains(&byte) => has_tokens(
+            rt,
+            alloc,
+            &text,
+            &[(Ident, 0, 2), (End, 3, 3)],
+        ),
+        _ if SYMBOLS.contains(&byte) => {
+            let tokens = lexed(rt, alloc, &text).expect(rt, "a symbol");
+            assert!(rt; tokens.len() == 3, "at {byte}");
         }
+        _ => has_fault(rt, alloc, &text, LexCode::L1, 1),
     }
-    Ok(())
+}
+
+#[test]
+fn every_second_byte(rt: HostRuntime) {
+    for byte in 0..=255u8 {
+        has_second_byte(&rt, rt.alloc(), byte);
+    }
 }

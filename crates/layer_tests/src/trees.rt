@@ -1,117 +1,169 @@
-use mo_lexer::{Sym, Token, TokenKind, Word, lex};
-use mo_parser::{ParseEnd, SyntaxCode, TreeEq, TreeExpr, TreeNode, fault_law, one_tree, parse};
+use crate::tokens::lexed;
+use mo_lexer::{Sym, Token, TokenKind, Word};
+use mo_parser::{
+    ClassDef, ParseEnd, SyntaxCode, Tree, TreeEq, TreeExpr, TreeNode, fault_law, one_tree, parse,
+};
 use std::alloc::Global;
 use std::process::Abort;
-use std::test::Fail;
+use sync_values::List;
 
-const LIMIT: usize = 1 << 20;
-
-fn is_fault(end: Option<ParseEnd>, code: SyntaxCode, at: u32) -> bool {
-    match end {
-        Some(
-            ParseEnd::Fault {
-                code: found,
-                at: place,
-            },
-        ) => found == code && place == at,
-        _ => false,
-    }
+fn tokens_of(rt: &impl Abort, alloc: Global, text: &[u8]) -> List<Token> {
+    lexed(rt, alloc, text).expect(rt, "a text of tokens")
 }
 
-fn has_fault(
-    rt: &impl Abort,
-    alloc: Global,
-    text: &[u8],
-    code: SyntaxCode,
-    at: u32,
-) -> Result<(), Fail> {
-    assert!(rt; text.len() <= LIMIT);
-    let tokens = lex(alloc, text)?;
-    let end = parse(alloc, text, &tokens).err();
-    assert!(rt; is_fault(end, code, at), "at {text:?}");
-    Ok(())
+/// The tree of a text of tokens, or how it ends.
+pub fn parsed(rt: &impl Abort, alloc: Global, text: &[u8]) -> Result<Tree, ParseEnd> {
+    parse(alloc, text, &tokens_of(rt, alloc, text))
 }
+
+fn has_fault(rt: &impl Abort, alloc: Global, text: &[u8], code: SyntaxCode, at: u32) -> bool {
+    parsed(rt, alloc, text).err() == Some(ParseEnd::Fault { code, at })
+}
+
+const FAULTS: [(&[u8], SyntaxCode, u32); 9] = [
+    (b"model A end", SyntaxCode::S1, 11),
+    (b"model A end B;", SyntaxCode::S1, 12),
+    (b"model A Real x[3]; end A;", SyntaxCode::S3, 14),
+    (b"model A while end A;", SyntaxCode::S3, 8),
+    (b"model A annotation(]); end A;", SyntaxCode::S1, 19),
+    (b"model A equation x = 1.5; end A;", SyntaxCode::S3, 21),
+    (
+        b"model A equation a < b < c = 1; end A;",
+        SyntaxCode::S1,
+        23,
+    ),
+    (
+        b"model A equation x = if a then 1; end A;",
+        SyntaxCode::S1,
+        32,
+    ),
+    (b"connector C = Real; model", SyntaxCode::S1, 25),
+];
 
 #[test]
-fn faults_of_texts(rt: HostRuntime) -> Result<(), Fail> {
-    let cases: [(&[u8], SyntaxCode, u32); 9] = [
-        (b"model A end", SyntaxCode::S1, 11),
-        (b"model A end B;", SyntaxCode::S1, 12),
-        (b"model A Real x[3]; end A;", SyntaxCode::S3, 14),
-        (b"model A while end A;", SyntaxCode::S3, 8),
-        (b"model A annotation(]); end A;", SyntaxCode::S1, 19),
-        (b"model A equation x = 1.5; end A;", SyntaxCode::S3, 21),
-        (
-            b"model A equation a < b < c = 1; end A;",
-            SyntaxCode::S1,
-            23,
-        ),
-        (
-            b"model A equation x = if a then 1; end A;",
-            SyntaxCode::S1,
-            32,
-        ),
-        (b"connector C = Real; model", SyntaxCode::S1, 25),
-    ];
-    for &(text, code, at) in &cases {
-        has_fault(&rt, rt.alloc(), text, code, at)?;
+fn faults_of_texts(rt: HostRuntime) {
+    for row in &FAULTS {
+        let holds = has_fault(&rt, rt.alloc(), row.0, row.1, row.2);
+        assert!(rt; holds, "at {:?}", row.0);
     }
     one_tree();
     fault_law();
-    Ok(())
 }
 
-// Behind `front` so many openings, what stands inside, and as many closing brackets.
-fn nested(
-    alloc: Global,
-    front: &[u8],
-    opening: &[u8],
-    inner: &[u8],
-    pairs: usize,
-) -> Result<Vec<u8>, Fail> {
-    let mut text = Vec::from_slice(alloc, front)?;
-    for _ in 0..pairs {
-        text.extend_from_slice(opening)?;
+const EQUATION: &[u8] = b"model A equation x = ";
+
+const NOTE: &[u8] = b"model A annotation";
+
+/// What stands in front, an opening, what stands inside, the number of pairs, and the fault where there is one.
+type Depth = (
+    &'static [u8],
+    &'static [u8],
+    &'static [u8],
+    usize,
+    Option<ParseEnd>,
+);
+
+// A closing bracket directly behind the opening one of level 65 stands outside this pair.
+const DEPTHS: [Depth; 11] = [
+    (EQUATION, b"(", b"1", 64, None),
+    (
+        EQUATION,
+        b"(",
+        b"1",
+        65,
+        Some(ParseEnd::Fault {
+            code: SyntaxCode::S2,
+            at: 86,
+        }),
+    ),
+    (
+        EQUATION,
+        b"(",
+        b"",
+        65,
+        Some(ParseEnd::Fault {
+            code: SyntaxCode::S1,
+            at: 86,
+        }),
+    ),
+    (EQUATION, b"f(", b"", 65, None),
+    (
+        EQUATION,
+        b"f(",
+        b"a",
+        65,
+        Some(ParseEnd::Fault {
+            code: SyntaxCode::S2,
+            at: 151,
+        }),
+    ),
+    (
+        EQUATION,
+        b"f(",
+        b"]",
+        65,
+        Some(ParseEnd::Fault {
+            code: SyntaxCode::S2,
+            at: 151,
+        }),
+    ),
+    (
+        EQUATION,
+        b"if ",
+        b"a",
+        65,
+        Some(ParseEnd::Fault {
+            code: SyntaxCode::S2,
+            at: 216,
+        }),
+    ),
+    (NOTE, b"(", b"x", 64, None),
+    (
+        NOTE,
+        b"(",
+        b"x",
+        65,
+        Some(ParseEnd::Fault {
+            code: SyntaxCode::S2,
+            at: 83,
+        }),
+    ),
+    (NOTE, b"(", b"", 65, None),
+    (
+        NOTE,
+        b"(",
+        b"{",
+        64,
+        Some(ParseEnd::Fault {
+            code: SyntaxCode::S2,
+            at: 83,
+        }),
+    ),
+];
+
+fn put_times(rt: &impl Abort, text: &mut Vec<u8>, piece: &[u8], times: usize) {
+    for _ in 0..times {
+        text.extend_from_slice(piece).expect(rt, "memory");
     }
-    text.extend_from_slice(inner)?;
-    for _ in 0..pairs {
-        text.push(b')')?;
-    }
-    text.extend_from_slice(b"; end A;")?;
-    Ok(text)
+}
+
+// Behind what stands in front so many openings, what stands inside, and as many closing brackets.
+fn nested(rt: &impl Abort, alloc: Global, row: &Depth) -> Vec<u8> {
+    let mut text = Vec::from_slice(alloc, row.0).expect(rt, "memory");
+    put_times(rt, &mut text, row.1, row.3);
+    put_times(rt, &mut text, row.2, 1);
+    put_times(rt, &mut text, b")", row.3);
+    put_times(rt, &mut text, b"; end A;", 1);
+    text
 }
 
 #[test]
-fn depth_of_brackets(rt: HostRuntime) -> Result<(), Fail> {
-    let alloc = rt.alloc();
-    let equation: &[u8] = b"model A equation x = ";
-    let note: &[u8] = b"model A annotation";
-    // A closing bracket directly behind the opening one of level 65 stands outside this pair.
-    let cases: [(&[u8], &[u8], &[u8], usize, Option<(SyntaxCode, u32)>); 11] = [
-        (equation, b"(", b"1", 64, None),
-        (equation, b"(", b"1", 65, Some((SyntaxCode::S2, 86))),
-        (equation, b"(", b"", 65, Some((SyntaxCode::S1, 86))),
-        (equation, b"f(", b"", 65, None),
-        (equation, b"f(", b"a", 65, Some((SyntaxCode::S2, 151))),
-        (equation, b"f(", b"]", 65, Some((SyntaxCode::S2, 151))),
-        (equation, b"if ", b"a", 65, Some((SyntaxCode::S2, 216))),
-        (note, b"(", b"x", 64, None),
-        (note, b"(", b"x", 65, Some((SyntaxCode::S2, 83))),
-        (note, b"(", b"", 65, None),
-        (note, b"(", b"{", 64, Some((SyntaxCode::S2, 83))),
-    ];
-    for &(front, opening, inner, pairs, fault) in &cases {
-        let text = nested(alloc, front, opening, inner, pairs)?;
-        match fault {
-            Some((code, at)) => has_fault(&rt, alloc, text.as_slice(), code, at)?,
-            None => {
-                assert!(rt; text.len() <= LIMIT);
-                let tokens = lex(alloc, text.as_slice())?;
-                assert!(rt; parse(alloc, text.as_slice(), &tokens).is_ok());
-            }
-        }
+fn depth_of_brackets(rt: HostRuntime) {
+    for row in &DEPTHS {
+        let text = nested(&rt, rt.alloc(), row);
+        let end = parsed(&rt, rt.alloc(), &text).err();
+        assert!(rt; end == row.4, "at {text:?}");
     }
-    Ok(())
 }
 
 const CONTROLLER: &[u8] = b"within;
@@ -148,17 +200,21 @@ equation
 end Loop;
 ";
 
+// The numbers of elements and of equations of each class.
+const COUNTS: [(usize, usize); 5] = [(0, 0), (0, 0), (2, 1), (6, 3), (3, 3)];
+
+fn has_counts(class: &ClassDef, counts: (usize, usize)) -> bool {
+    class.elements.len() == counts.0 && class.equations.len() == counts.1
+}
+
 #[test]
-fn classes_of_a_text(rt: HostRuntime) -> Result<(), Fail> {
-    let tokens = lex(rt.alloc(), CONTROLLER)?;
-    let tree = parse(rt.alloc(), CONTROLLER, &tokens)?;
-    let counts = [(0, 0), (0, 0), (2, 1), (6, 3), (3, 3)];
-    assert_eq!(rt; tree.classes.len(), counts.len());
-    for (class, (elements, equations)) in tree.classes.as_slice().iter().zip(counts) {
-        assert_eq!(rt; class.elements.len(), elements);
-        assert_eq!(rt; class.equations.len(), equations);
+fn classes_of_a_text(rt: HostRuntime) {
+    let tree = parsed(&rt, rt.alloc(), CONTROLLER).expect(&rt, "a tree");
+    assert!(rt; tree.classes.len() == 5);
+    for k in 0..5 {
+        let class = tree.classes.get(k).expect(&rt, "a class");
+        assert!(rt; has_counts(class, COUNTS[k]), "class {k}");
     }
-    Ok(())
 }
 
 // Whether an expression has this first byte, this byte behind it, and as a chain so many parts; 0 where it is none.
@@ -170,20 +226,20 @@ fn is_chain(expr: &TreeExpr, at: u32, end: u32, count: usize) -> bool {
     expr.span.at == at && expr.span.end == end && parts == count
 }
 
-#[test]
-fn spans_of_expressions(rt: HostRuntime) -> Result<(), Fail> {
-    let text: &[u8] = b"model A equation x = -(a) + b * 2 ^ c; end A;";
-    let tokens = lex(rt.alloc(), text)?;
-    let tree = parse(rt.alloc(), text, &tokens)?;
-    for class in tree.classes.as_slice() {
-        for equation in class.equations.as_slice() {
-            if let TreeEq::Equal(left, right) = equation {
-                assert!(rt; is_chain(left, 17, 18, 0));
-                assert!(rt; is_chain(right, 21, 37, 2));
-            }
-        }
+fn has_spans(equations: &[TreeEq]) -> bool {
+    match equations {
+        [TreeEq::Equal(left, right)] => is_chain(left, 17, 18, 0) && is_chain(right, 21, 37, 2),
+        _ => false,
     }
-    Ok(())
+}
+
+const SIGNED_SUM: &[u8] = b"model A equation x = -(a) + b * 2 ^ c; end A;";
+
+#[test]
+fn spans_of_expressions(rt: HostRuntime) {
+    let tree = parsed(&rt, rt.alloc(), SIGNED_SUM).expect(&rt, "a tree");
+    let class = tree.classes.get(0).expect(&rt, "a class");
+    assert!(rt; has_spans(class.equations.as_slice()));
 }
 
 const LOOP: &[u8] = b"within;
@@ -230,89 +286,69 @@ end Loop;
 ";
 
 // A text cut behind a token has a tree, or its fault is at its end.
-fn cut_is_answered(rt: &impl Abort, alloc: Global, cut: &[u8]) -> Result<(), Fail> {
-    assert!(rt; cut.len() <= LIMIT);
-    let tokens = lex(alloc, cut)?;
-    if let Err(end) = parse(alloc, cut, &tokens) {
-        let at = cut.len() as u32;
-        assert!(rt; is_fault(Some(end), SyntaxCode::S1, at), "at {cut:?}");
+fn is_answered(rt: &impl Abort, alloc: Global, text: &[u8], end: u32) -> bool {
+    let cut = end as usize;
+    assert!(rt; cut <= text.len());
+    match parsed(rt, alloc, &text[..cut]).err() {
+        Some(fault) => {
+            fault
+                == ParseEnd::Fault {
+                    code: SyntaxCode::S1,
+                    at: end,
+                }
+        }
+        None => true,
     }
-    Ok(())
-}
-
-fn cuts_are_answered(rt: &impl Abort, alloc: Global, text: &[u8]) -> Result<(), Fail> {
-    assert!(rt; text.len() <= LIMIT);
-    let tokens = lex(alloc, text)?;
-    for token in tokens.as_slice() {
-        let end = token.end as usize;
-        assert!(rt; end <= text.len());
-        cut_is_answered(rt, alloc, &text[..end])?;
-    }
-    Ok(())
 }
 
 #[test]
-fn cut_texts(rt: HostRuntime) -> Result<(), Fail> {
-    cuts_are_answered(&rt, rt.alloc(), LOOP)
+fn cut_texts(rt: HostRuntime) {
+    for token in tokens_of(&rt, rt.alloc(), LOOP).as_slice() {
+        let end = token.end;
+        assert!(rt; is_answered(&rt, rt.alloc(), LOOP, end), "cut at {end}");
+    }
 }
 
 // The text with other bytes where a token stands.
-fn replaced(
-    rt: &impl Abort,
-    alloc: Global,
-    text: &[u8],
-    token: Token,
-    by: &[u8],
-) -> Result<Vec<u8>, Fail> {
+fn replaced(rt: &impl Abort, alloc: Global, text: &[u8], token: Token, by: &[u8]) -> Vec<u8> {
     let at = token.at as usize;
     let end = token.end as usize;
-    assert!(rt; at <= text.len());
-    assert!(rt; end <= text.len());
-    let mut other = Vec::from_slice(alloc, &text[..at])?;
-    other.extend_from_slice(by)?;
-    other.extend_from_slice(&text[end..])?;
-    Ok(other)
+    assert!(rt; at <= text.len() && end <= text.len());
+    let mut other = Vec::from_slice(alloc, &text[..at]).expect(rt, "memory");
+    other.extend_from_slice(by).expect(rt, "memory");
+    other.extend_from_slice(&text[end..]).expect(rt, "memory");
+    other
 }
 
+const REPLACEMENTS: [(&[u8], SyntaxCode); 3] = [
+    (b" ] ", SyntaxCode::S1),
+    (b" while ", SyntaxCode::S3),
+    (b" 1.5 ", SyntaxCode::S3),
+];
+
 // The fault of a text with a token replaced is at the token put in, which has a space before it.
-fn has_replaced_fault(
-    rt: &impl Abort,
-    alloc: Global,
-    text: &[u8],
-    token: Token,
-) -> Result<(), Fail> {
+fn has_replaced_fault(rt: &impl Abort, alloc: Global, text: &[u8], token: Token) {
     assert!(rt; token.at < u32::MAX);
-    let at = token.at + 1;
-    let cases: [(&[u8], SyntaxCode); 3] = [
-        (b" ] ", SyntaxCode::S1),
-        (b" while ", SyntaxCode::S3),
-        (b" 1.5 ", SyntaxCode::S3),
-    ];
-    for &(by, code) in &cases {
-        let other = replaced(rt, alloc, text, token, by)?;
-        has_fault(rt, alloc, other.as_slice(), code, at)?;
+    for &(by, code) in &REPLACEMENTS {
+        let other = replaced(rt, alloc, text, token, by);
+        assert!(rt;
+            has_fault(rt, alloc, &other, code, token.at + 1),
+            "at {other:?}"
+        );
     }
-    Ok(())
 }
 
 // Inside an annotation any token may stand.
-fn replacements_have_faults(rt: &impl Abort, alloc: Global, text: &[u8]) -> Result<(), Fail> {
-    assert!(rt; text.len() <= LIMIT);
-    let tokens = lex(alloc, text)?;
+#[test]
+fn replaced_tokens(rt: HostRuntime) {
     let mut annotated = false;
-    for token in tokens.as_slice() {
+    for token in tokens_of(&rt, rt.alloc(), LOOP).as_slice() {
         match token.kind {
             TokenKind::Keyword(Word::KwAnnotation) => annotated = true,
             TokenKind::Symbol(Sym::Semicolon) if annotated => annotated = false,
             TokenKind::End => {}
             _ if annotated => {}
-            _ => has_replaced_fault(rt, alloc, text, *token)?,
+            _ => has_replaced_fault(&rt, rt.alloc(), LOOP, *token),
         }
     }
-    Ok(())
-}
-
-#[test]
-fn replaced_tokens(rt: HostRuntime) -> Result<(), Fail> {
-    replacements_have_faults(&rt, rt.alloc(), LOOP)
 }

@@ -1,4 +1,4 @@
-use Rattle.std.proofs.Common.{rules, ◌≡◌, ◌≢◌, refl, ap, ◌∙◌, sym, ℕ, ◌+◌, ◌*◌, true, pos, Option, Some, None}
+use Rattle.std.proofs.Common.{◌≡◌, ◌≢◌, refl, ap, ◌∙◌, sym, ℕ, ◌+◌, ◌*◌, true, pos, Option, Some, None}
 use Rattle.sync_values.specs.declared.value.Value.{Value}
 use Rattle.sync_values.specs.declared.value.Value.TheVariants as value
 use Rattle.flat_model.specs.declared.clock.ClockExpr.{ClockExpr}
@@ -24,12 +24,8 @@ sample_present part clock x views v is some absent =
 sample_plain : (part : Expr) (clock : Option ClockExpr) (x : ℕ) → part ≡ Read x → may_stand (Sample part clock) Now ≡ true
 sample_plain part clock x is = may_stand-Sample part clock Now ∙ ap (λ e. may_stand e Left) is ∙ may_stand-Read x Left
 
-pub eval-requires-clause-present : goal.eval-requires-clause-present
-eval-requires-clause-present c =
-    let is : c.in_ok-part.part ≡ Read c.args.name = search rules in
-    sample_present c.in_ok-part.part None c.args.name _ (value.Int (pos (c.args.name + 1000 * 1))) is refl
+pub value-requires-clause-present : goal.value-requires-clause-present
+value-requires-clause-present g c = sample_present c.boxed-part.result None c.args.name _ (value.Int (pos (c.args.name + 1000 * 1))) c.boxed-part.ensures refl
 
-pub eval-requires-clause-samples : goal.eval-requires-clause-samples
-eval-requires-clause-samples c =
-    let is : c.in_ok-part.part ≡ Read c.args.name = search rules in
-    sample_plain c.in_ok-part.part None c.args.name is
+pub value-requires-clause-samples : goal.value-requires-clause-samples
+value-requires-clause-samples g c = sample_plain c.boxed-part.result None c.args.name c.boxed-part.ensures

@@ -1,4 +1,4 @@
-use Rattle.std.proofs.Common.{rules, ◌≡◌, ◌≢◌, refl, ◌∙◌, [], ◌∷◌, Bool, true, false}
+use Rattle.std.proofs.Common.{◌≡◌, ◌≢◌, refl, [], ◌∷◌, Bool, true, false}
 use Rattle.sync_values.specs.declared.value.Value.TheVariants as value
 use Rattle.sync_values.specs.declared.value.Fail.{Fail}
 use Rattle.sync_values.specs.declared.value.Fail.TheVariants.{Divide}
@@ -31,14 +31,8 @@ short_present b op part kind views fails = simp (value_of-Chain, value_of-Const,
 short_plain : (b : Bool) (op : ChainOp) (part : Expr) → may_stand part Now ≡ true → may_stand (Chain (Const (value.Bool b) ∷ (part ∷ [])) (op ∷ [])) Now ≡ true
 short_plain b op part plain = simp (may_stand-Chain, may_stand-Const, plain) refl
 
-pub eval-requires-clause-present : goal.eval-requires-clause-present
-eval-requires-clause-present c =
-    let parts : c.from_vec.result ≡ Const (value.Bool c.args.b) ∷ (c.in_ok-failed.failed ∷ []) = search rules in
-    let ops : c.from_vec-2.result ≡ c.args.op ∷ [] = c.from_vec-2.ensures ∙ c.in_ok-ops.ensures.items in
-    rw (parts, ops) (short_present c.args.b c.args.op c.in_ok-failed.failed Divide _ (c.in_ok-failed.ensures.fails _))
+pub value-requires-clause-present : goal.value-requires-clause-present
+value-requires-clause-present g c = rw c.chain-whole.ensures (short_present c.args.b c.args.op c.failing-failed.result Divide _ (c.failing-failed.ensures.fails _))
 
-pub eval-requires-clause-samples : goal.eval-requires-clause-samples
-eval-requires-clause-samples c =
-    let parts : c.from_vec.result ≡ Const (value.Bool c.args.b) ∷ (c.in_ok-failed.failed ∷ []) = search rules in
-    let ops : c.from_vec-2.result ≡ c.args.op ∷ [] = c.from_vec-2.ensures ∙ c.in_ok-ops.ensures.items in
-    rw (parts, ops) (short_plain c.args.b c.args.op c.in_ok-failed.failed (c.in_ok-failed.ensures.plain Now))
+pub value-requires-clause-samples : goal.value-requires-clause-samples
+value-requires-clause-samples g c = rw c.chain-whole.ensures (short_plain c.args.b c.args.op c.failing-failed.result (c.failing-failed.ensures.plain Now))

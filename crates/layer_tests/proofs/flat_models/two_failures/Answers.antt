@@ -1,4 +1,4 @@
-use Rattle.std.proofs.Common.{◌≡◌, ◌≢◌, refl, ◌∙◌, [], ◌∷◌, true}
+use Rattle.std.proofs.Common.{◌≡◌, ◌≢◌, refl, [], ◌∷◌, true}
 use Rattle.sync_values.specs.declared.value.Fail.{Fail}
 use Rattle.sync_values.specs.declared.value.ChainOp.TheVariants.{Plus}
 use Rattle.flat_model.specs.declared.expression.Expr.{Expr}
@@ -18,14 +18,8 @@ two_present first second kind views fails = simp (value_of-Chain, fails) (λ abs
 two_plain : (first second : Expr) → may_stand first Now ≡ true → may_stand second Now ≡ true → may_stand (Chain (first ∷ (second ∷ [])) (Plus ∷ [])) Now ≡ true
 two_plain first second first_plain second_plain = simp (may_stand-Chain, first_plain, second_plain) refl
 
-pub eval-requires-clause-present : goal.eval-requires-clause-present
-eval-requires-clause-present c =
-    let parts : c.from_vec.result ≡ c.in_ok-left.left ∷ (c.in_ok-right.right ∷ []) = c.from_vec.ensures ∙ c.in_ok-parts.ensures.items in
-    let ops : c.from_vec-2.result ≡ Plus ∷ [] = c.from_vec-2.ensures ∙ c.in_ok-ops.ensures.items in
-    rw (parts, ops) (two_present c.in_ok-left.left c.in_ok-right.right c.args.first _ (c.in_ok-left.ensures.fails _))
+pub value-requires-clause-present : goal.value-requires-clause-present
+value-requires-clause-present g c = rw c.chain-whole.ensures (two_present c.failing-left.result c.failing-right.result c.args.first _ (c.failing-left.ensures.fails _))
 
-pub eval-requires-clause-samples : goal.eval-requires-clause-samples
-eval-requires-clause-samples c =
-    let parts : c.from_vec.result ≡ c.in_ok-left.left ∷ (c.in_ok-right.right ∷ []) = c.from_vec.ensures ∙ c.in_ok-parts.ensures.items in
-    let ops : c.from_vec-2.result ≡ Plus ∷ [] = c.from_vec-2.ensures ∙ c.in_ok-ops.ensures.items in
-    rw (parts, ops) (two_plain c.in_ok-left.left c.in_ok-right.right (c.in_ok-left.ensures.plain Now) (c.in_ok-right.ensures.plain Now))
+pub value-requires-clause-samples : goal.value-requires-clause-samples
+value-requires-clause-samples g c = rw c.chain-whole.ensures (two_plain c.failing-left.result c.failing-right.result (c.failing-left.ensures.plain Now) (c.failing-right.ensures.plain Now))

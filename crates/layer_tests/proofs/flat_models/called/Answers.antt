@@ -13,7 +13,7 @@ use Rattle.flat_model.specs.Samples.{may_stand}
 use Rattle.flat_model.proofs.Values.{value_of-Apply, value_of-Const}
 use Rattle.flat_model.proofs.Standings.{may_stand-Apply, may_stand-Const}
 use Rattle.flat_model.proofs.Evaluations.{settled_present}
-use Rattle.layer_tests.proofs.flat_models.call.Goals as goal
+use Rattle.layer_tests.proofs.flat_models.called.Goals as goal
 
 two_present : (function : Fun) (a b : ℤ) → function ≢ Abs → called_with_two function a b ≢ Absent
 two_present Div a b some = settled_present (over b (exact_div a b))
@@ -29,12 +29,12 @@ call_present function a b views some = simp (value_of-Apply, value_of-Const) (tw
 call_plain : (function : Fun) (a b : ℤ) → may_stand (Apply function (Const (value.Int a) ∷ (Const (value.Int b) ∷ []))) Now ≡ true
 call_plain function a b = simp (may_stand-Apply, may_stand-Const) refl
 
-pub eval-requires-clause-present : goal.eval-requires-clause-present
-eval-requires-clause-present c =
-    let parts : c.from_vec.result ≡ Const (value.Int c.args.a) ∷ (Const (value.Int c.args.b) ∷ []) = search rules in
+pub value-requires-clause-present : goal.value-requires-clause-present
+value-requires-clause-present g c =
+    let parts : c.two.result ≡ Const (value.Int c.args.a) ∷ (Const (value.Int c.args.b) ∷ []) = search rules in
     rw parts (call_present c.args.function c.args.a c.args.b _ c.requires)
 
-pub eval-requires-clause-samples : goal.eval-requires-clause-samples
-eval-requires-clause-samples c =
-    let parts : c.from_vec.result ≡ Const (value.Int c.args.a) ∷ (Const (value.Int c.args.b) ∷ []) = search rules in
+pub value-requires-clause-samples : goal.value-requires-clause-samples
+value-requires-clause-samples g c =
+    let parts : c.two.result ≡ Const (value.Int c.args.a) ∷ (Const (value.Int c.args.b) ∷ []) = search rules in
     rw parts (call_plain c.args.function c.args.a c.args.b)

@@ -1,4 +1,4 @@
-use Rattle.std.proofs.Common.{rules, ◌≡◌, ◌≢◌, ap, ◌∙◌, sym, Bool, true, ◌&&◌}
+use Rattle.std.proofs.Common.{◌≡◌, ◌≢◌, ap, ◌∙◌, sym, Bool, true, ◌&&◌}
 use Rattle.sync_values.specs.declared.value.Value.TheVariants as value
 use Rattle.sync_values.specs.declared.value.Rel.{Rel}
 use Rattle.flat_model.specs.declared.expression.Expr.{Expr}
@@ -10,7 +10,7 @@ use Rattle.flat_model.specs.Meaning.{value_of}
 use Rattle.flat_model.specs.Samples.{may_stand}
 use Rattle.flat_model.proofs.Values.{value_of-Relation, value_of-Const}
 use Rattle.flat_model.proofs.Standings.{may_stand-Relation, may_stand-Const}
-use Rattle.layer_tests.proofs.flat_models.relation.Goals as goal
+use Rattle.layer_tests.proofs.flat_models.related.Goals as goal
 
 relation_present : (rel : Rel) (left right : Expr) (a b : Bool) (views : Views) → left ≡ Const (value.Bool a) → right ≡ Const (value.Bool b) → value_of (Relation rel left right) views ≢ Absent
 relation_present rel left right a b views is_left is_right absent =
@@ -25,14 +25,8 @@ relation_plain rel left right a b is_left is_right =
     let right_plain : may_stand right Now ≡ true = ap (λ e. may_stand e Now) is_right ∙ may_stand-Const (value.Bool b) Now in
     may_stand-Relation rel left right Now ∙ ap (λ l. l && may_stand right Now) left_plain ∙ right_plain
 
-pub eval-requires-clause-present : goal.eval-requires-clause-present
-eval-requires-clause-present c =
-    let is_left : c.in_ok-left.left ≡ Const (value.Bool c.args.a) = search rules in
-    let is_right : c.in_ok-right.right ≡ Const (value.Bool c.args.b) = search rules in
-    relation_present c.args.rel c.in_ok-left.left c.in_ok-right.right c.args.a c.args.b _ is_left is_right
+pub value-requires-clause-present : goal.value-requires-clause-present
+value-requires-clause-present g c = relation_present c.args.rel c.boxed-left.result c.boxed-right.result c.args.a c.args.b _ c.boxed-left.ensures c.boxed-right.ensures
 
-pub eval-requires-clause-samples : goal.eval-requires-clause-samples
-eval-requires-clause-samples c =
-    let is_left : c.in_ok-left.left ≡ Const (value.Bool c.args.a) = search rules in
-    let is_right : c.in_ok-right.right ≡ Const (value.Bool c.args.b) = search rules in
-    relation_plain c.args.rel c.in_ok-left.left c.in_ok-right.right c.args.a c.args.b is_left is_right
+pub value-requires-clause-samples : goal.value-requires-clause-samples
+value-requires-clause-samples g c = relation_plain c.args.rel c.boxed-left.result c.boxed-right.result c.args.a c.args.b c.boxed-left.ensures c.boxed-right.ensures

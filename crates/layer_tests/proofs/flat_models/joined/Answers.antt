@@ -1,4 +1,4 @@
-use Rattle.std.proofs.Common.{rules, ◌≡◌, ◌≢◌, refl, ◌∙◌, [], ◌∷◌, true, ℤ, ◌+ℤ◌, ◌-ℤ◌, ◌*ℤ◌}
+use Rattle.std.proofs.Common.{rules, ◌≡◌, ◌≢◌, refl, [], ◌∷◌, true, ℤ, ◌+ℤ◌, ◌-ℤ◌, ◌*ℤ◌}
 use Rattle.sync_values.specs.declared.value.Value.TheVariants as value
 use Rattle.sync_values.specs.declared.value.ChainOp.{ChainOp}
 use Rattle.sync_values.specs.declared.value.ChainOp.TheVariants.{Plus, Minus, Times, Over, And, Or}
@@ -12,7 +12,7 @@ use Rattle.flat_model.specs.Samples.{may_stand}
 use Rattle.flat_model.proofs.Values.{value_of-Chain, value_of-Const}
 use Rattle.flat_model.proofs.Standings.{may_stand-Chain, may_stand-Const}
 use Rattle.flat_model.proofs.Evaluations.{settled_present}
-use Rattle.layer_tests.proofs.flat_models.chain.Goals as goal
+use Rattle.layer_tests.proofs.flat_models.joined.Goals as goal
 
 chain_present : (op : ChainOp) (a b : ℤ) (views : Views) → op ≢ Over → op ≢ And → op ≢ Or → value_of (Chain (Const (value.Int a) ∷ (Const (value.Int b) ∷ [])) (op ∷ [])) views ≢ Absent
 chain_present Plus a b views over and or = simp (value_of-Chain, value_of-Const) (settled_present (fitted (a +ℤ b)))
@@ -25,14 +25,12 @@ chain_present Or a b views over and or = absurd (or refl)
 chain_plain : (op : ChainOp) (a b : ℤ) → may_stand (Chain (Const (value.Int a) ∷ (Const (value.Int b) ∷ [])) (op ∷ [])) Now ≡ true
 chain_plain op a b = simp (may_stand-Chain, may_stand-Const) refl
 
-pub eval-requires-clause-present : goal.eval-requires-clause-present
-eval-requires-clause-present c =
-    let parts : c.from_vec.result ≡ Const (value.Int c.args.a) ∷ (Const (value.Int c.args.b) ∷ []) = search rules in
-    let ops : c.from_vec-2.result ≡ c.args.op ∷ [] = c.from_vec-2.ensures ∙ c.in_ok-ops.ensures.items in
-    rw (parts, ops) (chain_present c.args.op c.args.a c.args.b _ c.requires.over c.requires.and c.requires.or)
+pub value-requires-clause-present : goal.value-requires-clause-present
+value-requires-clause-present g c =
+    let whole : c.chain.result ≡ Chain (Const (value.Int c.args.a) ∷ (Const (value.Int c.args.b) ∷ [])) (c.args.op ∷ []) = search rules in
+    rw whole (chain_present c.args.op c.args.a c.args.b _ c.requires.over c.requires.and c.requires.or)
 
-pub eval-requires-clause-samples : goal.eval-requires-clause-samples
-eval-requires-clause-samples c =
-    let parts : c.from_vec.result ≡ Const (value.Int c.args.a) ∷ (Const (value.Int c.args.b) ∷ []) = search rules in
-    let ops : c.from_vec-2.result ≡ c.args.op ∷ [] = c.from_vec-2.ensures ∙ c.in_ok-ops.ensures.items in
-    rw (parts, ops) (chain_plain c.args.op c.args.a c.args.b)
+pub value-requires-clause-samples : goal.value-requires-clause-samples
+value-requires-clause-samples g c =
+    let whole : c.chain.result ≡ Chain (Const (value.Int c.args.a) ∷ (Const (value.Int c.args.b) ∷ [])) (c.args.op ∷ []) = search rules in
+    rw whole (chain_plain c.args.op c.args.a c.args.b)
