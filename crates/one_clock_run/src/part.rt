@@ -11,7 +11,7 @@ use std::alloc::{AllocError, Global};
 use sync_values::{Fail, Value};
 
 /// The equation that failed at a tick, by its number, and how.
-#[derive(Clone, Copy, Debug, PartialEq, Eq)]
+#[derive(Clone, Copy)]
 pub struct Failing {
     pub equation: usize,
     pub kind: Fail,

@@ -9,7 +9,7 @@ use rational_time::{Ratio, make, ticks_until};
 use std::alloc::{AllocError, Global};
 
 /// The clock of a model of one clock, in seconds.
-#[derive(Clone, Copy, Debug, PartialEq, Eq)]
+#[derive(Clone, Copy)]
 pub struct TickClock {
     pub period: Ratio,
     pub start: Ratio,

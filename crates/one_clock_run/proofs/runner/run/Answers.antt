@@ -15,7 +15,7 @@ loop-at-preserved g c =
     let eqs = c.args.model.now.equations in
     let ts = c.args.instants.now in
     let went : stepped eqs c.loop-at.part.latest.items ≡ Ok c.step.new.self.latest.items = c.in-Ok.ensures.steps in
-    let row : c.bytes.result.now ≡ tick_text t c.step.new.self.latest.items = c.bytes.ensures ∙ c.write_row.ensures.text ∙ ap (tick_text t) c.values.ensures in
+    let row : c.as_slice.result.now ≡ tick_text t c.step.new.self.latest.items = c.as_slice.ensures.value ∙ c.write_row.ensures.text ∙ ap (tick_text t) c.values.ensures in
     let left = rows_at eqs c.loop-at.part.latest.items c.step.new.self.latest.items ts c.loop-at.at-index t c.loop-at-test.true c.at-item.is went in
     record {
       text = (
@@ -40,7 +40,7 @@ returns-in-Err-put_all-clause-ends g c =
     let eqs = c.args.model.now.equations in
     let ts = c.args.instants.now in
     let went : stepped eqs c.loop-at.part.latest.items ≡ Ok c.step.new.self.latest.items = c.in-Ok.ensures.steps in
-    let row : c.bytes.result.now ≡ tick_text t c.step.new.self.latest.items = c.bytes.ensures ∙ c.write_row.ensures.text ∙ ap (tick_text t) c.values.ensures in
+    let row : c.as_slice.result.now ≡ tick_text t c.step.new.self.latest.items = c.as_slice.ensures.value ∙ c.write_row.ensures.text ∙ ap (tick_text t) c.values.ensures in
     let left = rows_at eqs c.loop-at.part.latest.items c.step.new.self.latest.items ts c.loop-at.at-index t c.loop-at-test.true c.at-item.is went in
     GrewByPrefix-after done (tick_text t c.step.new.self.latest.items) (rows_from eqs c.step.new.self.latest.items (drop (c.loop-at.at-index + 1) ts)) (rows_from eqs c.args.part.now.latest.items ts) (g.O.Sink.text c.args.out.now) (g.O.Sink.text c.put_all.new.sink)
     (ap (λ r. done ++ r) (sym left) ∙ whole) (rw (sym row, sym grew) c.in-Err-put_all.ensures.err)
