@@ -77,7 +77,7 @@ fn first_ticks(alloc: Global, clock: TickClock, count: u64) -> Result<Vec<Ratio>
 {
     let mut instants = Vec::with_capacity(alloc, count as usize)?;
     for k in 0..count {
-        instants.push(make(k * clock.period.num(), clock.period.den()))?;
+        instants.push_reserved(make(k * clock.period.num(), clock.period.den()));
     }
     Ok(instants)
 }

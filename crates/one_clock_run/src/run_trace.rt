@@ -3,10 +3,10 @@ ghost use Rattle.outside_io.specs.Counts.{Rose};
 ghost use Rattle.flat_model.specs.Trace.{header_text};
 ghost use Rattle.one_clock.specs.OneClock.{AreOrdered, AreOwnNames, IsOneClock};
 ghost use Rattle.rational_time.specs.Fraction.{ArePartsBelow};
-ghost use Rattle.one_clock_run.specs.Computed.{AreRunInstants, HasTickCount, rows_from, starts_of};
+ghost use Rattle.one_clock_run.specs.Computed.{HasTickCount, rows_from};
 ghost use Rattle.one_clock_run.specs.Ends.{RunsAs};
 ghost use Rattle.one_clock_run.specs.Lines.{FitsLines};
-ghost use Rattle.one_clock_run.specs.Traces.{TracesAs};
+ghost use Rattle.one_clock_run.specs.Traces.{IsMemory, TracesAs};
 ghost use Rattle.one_clock_run.specs.Values.{AreValuesOf};
 
 use crate::line::{reserve_line, write_header};
@@ -61,10 +61,7 @@ fn take_memory(
     requires period { ArePartsBelow (2 ^ 31) clock.period }
     requires few { ticks < 2 ^ 25 }
     requires ticks { HasTickCount model.now.equations clock.period clock.start stop ticks }
-    ensures instants { IfOk result (λ m. AreRunInstants model.now.equations clock.period clock.start stop m.instants.items) }
-    ensures starts { IfOk result (λ m. m.part.latest.items ≡ starts_of model.now.names) }
-    ensures before { IfOk result (λ m. length m.part.before.items ≡ length model.now.names) }
-    ensures line { IfOk result (λ m. FitsLines model.now.names (vec_capacity m.line)) }
+    ensures { IfOk result (λ m. IsMemory model.now clock.period clock.start stop m.instants.items m.part.latest.items m.part.before.items (vec_capacity m.line)) }
 {
     let names = model.names.as_slice();
     Ok(Memory {

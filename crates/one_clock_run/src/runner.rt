@@ -31,7 +31,13 @@ pub fn run<O: Sink>(
     for at in instants {
         match part.step(model) {
             Ok(()) => {}
-            Err(failing) => { return Err(RunStop::Faulted { kind: failing.kind, at: *at, equation: failing.equation }); }
+            Err(failing) => {
+                return Err(RunStop::Faulted {
+                    kind: failing.kind,
+                    at: *at,
+                    equation: failing.equation,
+                });
+            }
         }
         write_row(line, *at, part.values());
         match put_all(out, line.as_slice()) {
