@@ -1,5 +1,5 @@
 -- Lines, piece by piece.
-use Rattle.std.proofs.Common.{◌≡◌, ap, ◌∙◌, ℕ, ◌+◌, List, ◌++◌, codes, decimal, append_assoc}
+use Rattle.std.proofs.Common.{◌≡◌, refl, ap, ◌∙◌, ℕ, ◌+◌, List, ◌++◌, codes, decimal, length, length-append, append_assoc}
 use Rattle.sync_values.specs.declared.value.Fail.{Fail}
 use Rattle.rational_time.specs.declared.ratio.Ratio.{Ratio}
 use Rattle.rational_time.specs.Fraction.{instant_text}
@@ -12,9 +12,17 @@ pub pieces_of_line : (kind : Fail) (at : Ratio) (i : ℕ)
 pieces_of_line kind at i =
     ap (λ line. line ++ codes "\n") (append_assoc (codes "fault " ++ kind_text kind ++ codes " at " ++ instant_text at ++ codes " in ") (codes "equation ") (decimal (i + 1)))
 
--- pieces behind a front
-pub three_pieces : (front a b c : List ℕ) → front ++ a ++ b ++ c ≡ front ++ (a ++ b ++ c)
-three_pieces front a b c = ap (λ line. line ++ c) (append_assoc front a b) ∙ append_assoc front (a ++ b) c
+-- a line is longer by its new piece
+pub added : (line old piece : List ℕ) → line ≡ old ++ piece → length line ≡ length old + length piece
+added line old piece is = ap (λ t. length t) is ∙ length-append old piece
 
-pub four_pieces : (front a b c d : List ℕ) → front ++ a ++ b ++ c ++ d ≡ front ++ (a ++ b ++ c ++ d)
-four_pieces front a b c d = ap (λ line. line ++ d) (three_pieces front a b c) ∙ append_assoc front (a ++ b ++ c) d
+-- pieces that are added one by one
+pub two_added : (front one two a b piece : List ℕ) → one ≡ front ++ a → two ≡ one ++ b → b ≡ piece → two ≡ front ++ (a ++ piece)
+two_added front one two a b piece first second same = second ∙ ap (λ line. line ++ b) first ∙ append_assoc front a b ∙ ap (λ p. front ++ (a ++ p)) same
+
+pub three_added : (front one two three a b c : List ℕ) → one ≡ front ++ a → two ≡ one ++ b → three ≡ two ++ c → three ≡ front ++ (a ++ b ++ c)
+three_added front one two three a b c first second third = third ∙ ap (λ line. line ++ c) (two_added front one two a b b first second refl) ∙ append_assoc front (a ++ b) c
+
+pub four_added : (front one two three four a b c d : List ℕ) → one ≡ front ++ a → two ≡ one ++ b → three ≡ two ++ c → four ≡ three ++ d → four ≡ front ++ (a ++ b ++ c ++ d)
+four_added front one two three four a b c d first second third last =
+    last ∙ ap (λ line. line ++ d) (three_added front one two three a b c first second third) ∙ append_assoc front (a ++ b ++ c) d
