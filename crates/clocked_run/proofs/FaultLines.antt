@@ -1,5 +1,5 @@
 -- Lines, piece by piece.
-use Rattle.std.proofs.Common.{◌≡◌, refl, ap, ◌∙◌, ℕ, ◌+◌, List, ◌++◌, codes, decimal, length, length-append, append_assoc}
+use Rattle.std.proofs.Common.{◌≡◌, refl, ap, sym, ◌∙◌, ℕ, ◌+◌, List, ◌++◌, codes, decimal, length, length-append, append_assoc}
 use Rattle.sync_values.specs.declared.value.Fail.{Fail}
 use Rattle.rational_time.specs.declared.ratio.Ratio.{Ratio}
 use Rattle.rational_time.specs.Fraction.{instant_text}
@@ -8,9 +8,11 @@ use Rattle.flat_model.specs.declared.fault.FaultPlace.TheVariants.{Equation}
 use Rattle.one_clock_run.specs.Runs.{fault_line, kind_text}
 
 pub pieces_of_line : (kind : Fail) (at : Ratio) (i : ℕ)
-    → codes "fault " ++ kind_text kind ++ codes " at " ++ instant_text at ++ codes " in " ++ codes "equation " ++ decimal (i + 1) ++ codes "\n" ≡ fault_line (At at) (Equation i) kind
+    → codes "fault " ++ kind_text kind ++ codes " at " ++ instant_text at ++ codes " in equation " ++ decimal (i + 1) ++ codes "\n" ≡ fault_line (At at) (Equation i) kind
 pieces_of_line kind at i =
-    ap (λ line. line ++ codes "\n") (append_assoc (codes "fault " ++ kind_text kind ++ codes " at " ++ instant_text at ++ codes " in ") (codes "equation ") (decimal (i + 1)))
+    let front : List ℕ = codes "fault " ++ kind_text kind ++ codes " at " ++ instant_text at in
+    ap (λ line. line ++ decimal (i + 1) ++ codes "\n") (sym (append_assoc front (codes " in ") (codes "equation ")))
+    ∙ ap (λ line. line ++ codes "\n") (append_assoc (front ++ codes " in ") (codes "equation ") (decimal (i + 1)))
 
 -- a line is longer by its new piece
 pub added : (line old piece : List ℕ) → line ≡ old ++ piece → length line ≡ length old + length piece

@@ -1,4 +1,4 @@
-use Rattle.std.proofs.Common.{map, string_bytes, refl, ap, ◌∙◌, Err}
+use Rattle.std.proofs.Common.{map, string_bytes, refl, ap, Err}
 use Rattle.outside_io.specs.Counts.{Rose}
 use Rattle.outside_io.specs.Files.{told}
 use Rattle.clocked_run.specs.Ends.{IsRight, written}

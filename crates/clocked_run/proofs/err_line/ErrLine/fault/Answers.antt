@@ -4,7 +4,6 @@ use Rattle.clocked_run.proofs.err_line.ErrLine.fault.Goals as goal
 pub returns : goal.returns
 returns c =
     rw (
-      c.add-7.ensures,
       c.add-6.ensures,
       c.add-5.ensures,
       c.add-4.ensures,
