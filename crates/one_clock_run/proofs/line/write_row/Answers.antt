@@ -16,3 +16,15 @@ loop-value-preserved c =
       len = omega (arith, c.add_value.ensures.len, c.add.ensures.len, inv.len);
       room = c.add_value.ensures.room ∙ c.add.ensures.room ∙ inv.room;
     }
+
+pub add_instant-requires : goal.add_instant-requires
+add_instant-requires c = omega (arith, c.requires, c.clear.ensures.len, c.clear.ensures.capacity)
+
+pub add-requires : goal.add-requires
+add-requires c = omega (arith, c.requires, c.loop-value.invariant.len, c.loop-value.invariant.room, c.loop-value-test.true)
+
+pub add_value-requires : goal.add_value-requires
+add_value-requires c = omega (arith, c.requires, c.loop-value.invariant.len, c.loop-value.invariant.room, c.loop-value-test.true, c.add.ensures.len, c.add.ensures.room)
+
+pub add-requires-2 : goal.add-requires-2
+add-requires-2 c = omega (arith, c.requires, c.loop-value.invariant.len, c.loop-value.invariant.room, c.loop-value.auto.value-index-end)

@@ -1,9 +1,10 @@
 use Rattle.std.proofs.Common.{◌≡◌, refl, ap, sym, ◌∙◌, ◌+◌, ◌++◌, drop, arith, [], Ok, Err, Some, suc, length, append-nil}
+use Rattle.std.proofs.lemmas.List.{drop_all}
 use Rattle.outside_io.specs.Texts.{grown}
 use Rattle.outside_io.proofs.Growth.{grown-grown, grown-nil}
 use Rattle.one_clock_run.specs.Ends.{FailsAt}
 use Rattle.one_clock_run.specs.Steps.{failing_of}
-use Rattle.one_clock_run.specs.Computed.{Failing, stepped, rows_from, tick_text}
+use Rattle.one_clock_run.specs.Computed.{Failing, stepped, rows_from, first_failing, tick_text}
 use Rattle.one_clock_run.proofs.RowsLemmas.{rows_at, rows_behind, failing_at, no_rows_at, failing_first, GrewByPrefix-after}
 use Rattle.one_clock_run.proofs.runner.run.Goals as goal
 
@@ -89,3 +90,16 @@ returns-in-Err-clause-counts g c = c.loop-at.invariant.counts
 
 pub returns-in-Err-put_all-clause-counts : goal.returns-in-Err-put_all-clause-counts
 returns-in-Err-put_all-clause-counts g c = omega (arith, c.loop-at.invariant.counts, c.in-Err-put_all.ensures.counts)
+
+pub returns-clause-ends : goal.returns-clause-ends
+returns-clause-ends g c =
+    let inv = c.loop-at.invariant in
+    let (done, whole, grew) = inv.text in
+    let eqs = c.args.model.now.equations in
+    let ts = c.args.instants.now in
+    let none : drop c.loop-at.at-index ts ≡ [] = drop_all c.loop-at.at-index ts c.loop-at-test.false in
+    let all : done ≡ rows_from eqs c.args.part.now.latest.items ts = sym (append-nil done) ∙ ap (λ left. done ++ rows_from eqs c.loop-at.part.latest.items left) (sym none) ∙ whole in
+    (sym inv.failing ∙ ap (first_failing eqs c.loop-at.part.latest.items (c.loop-at.at-index + 1)) none, grew ∙ ap (λ d. grown d (g.O.Sink.text c.args.out.now)) all)
+
+pub returns-clause-counts : goal.returns-clause-counts
+returns-clause-counts g c = c.loop-at.invariant.counts

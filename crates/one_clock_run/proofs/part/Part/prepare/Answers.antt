@@ -12,3 +12,13 @@ loop-name-preserved c =
       len = omega (arith, c.push_reserved.ensures.len, inv.len);
       room = omega (arith, c.push_reserved.ensures.capacity, inv.room);
     }
+
+pub loop-name-init : goal.loop-name-init
+loop-name-init c = record {
+  starts = ap (λ items. items ++ starts_of c.args.names.now) c.in_ok-latest.ensures.items;
+  len = c.in_ok-latest.ensures.len;
+  room = omega (arith, c.in_ok-latest.ensures.capacity);
+}
+
+pub push_reserved-requires : goal.push_reserved-requires
+push_reserved-requires c = omega (arith, c.loop-name.invariant.len, c.loop-name.invariant.room, c.loop-name-test.true)
