@@ -40,3 +40,56 @@ returns-in-Cell c = record {
     c.requires.room,
   );
 }
+
+pub add_number-requires : goal.add_number-requires
+add_number-requires c = omega (arith, c.requires.room)
+
+pub add-requires : goal.add-requires
+add-requires c = omega (arith, c.add_number.ensures.len, c.requires.room)
+
+pub add_number-requires-in-At : goal.add_number-requires-in-At
+add_number-requires-in-At c = omega (arith, added c.add.new.self c.add_number.new.self (codes ":") c.add.ensures, c.add_number.ensures.len, c.requires.room)
+
+pub add-requires-in-Equation : goal.add-requires-in-Equation
+add-requires-in-Equation c = omega (arith, c.requires.room)
+
+pub add-requires-in-Equation-2 : goal.add-requires-in-Equation-2
+add-requires-in-Equation-2 c =
+    omega (arith, added c.add-in-Equation.new.self c.args.self.now (codes "equation ") c.add-in-Equation.ensures, ap (λ t. length t) c.as_bytes.ensures.value, c.format.ensures.short, c.requires.room)
+
+pub add-requires-in-Cell : goal.add-requires-in-Cell
+add-requires-in-Cell c = omega (arith, c.requires.room)
+
+pub add_number-requires-in-Cell : goal.add_number-requires-in-Cell
+add_number-requires-in-Cell c = omega (arith, added c.add-in-Cell.new.self c.args.self.now (codes "row ") c.add-in-Cell.ensures, c.requires.room)
+
+pub add-requires-in-Cell-2 : goal.add-requires-in-Cell-2
+add-requires-in-Cell-2 c = omega (arith, c.add_number-in-Cell.ensures.len, added c.add-in-Cell.new.self c.args.self.now (codes "row ") c.add-in-Cell.ensures, c.requires.room)
+
+pub add_number-requires-in-Cell-2 : goal.add_number-requires-in-Cell-2
+add_number-requires-in-Cell-2 c =
+    omega (
+      arith,
+      added c.add-in-Cell-2.new.self c.add_number-in-Cell.new.self (codes " column ") c.add-in-Cell-2.ensures,
+      c.add_number-in-Cell.ensures.len,
+      added c.add-in-Cell.new.self c.args.self.now (codes "row ") c.add-in-Cell.ensures,
+      c.requires.room,
+    )
+
+pub returns-in-Model : goal.returns-in-Model
+returns-in-Model c = record {
+  text = rw c.in-Model.is c.add-in-Model.ensures;
+  len = omega (arith, added c.add-in-Model.new.self c.args.self.now (codes "model") c.add-in-Model.ensures, c.requires.room);
+}
+
+pub returns-in-Table : goal.returns-in-Table
+returns-in-Table c = record {
+  text = rw c.in-Table.is c.add-in-Table.ensures;
+  len = omega (arith, added c.add-in-Table.new.self c.args.self.now (codes "table") c.add-in-Table.ensures, c.requires.room);
+}
+
+pub returns-in-Plan : goal.returns-in-Plan
+returns-in-Plan c = record {
+  text = rw c.in-Plan.is c.add-in-Plan.ensures;
+  len = omega (arith, added c.add-in-Plan.new.self c.args.self.now (codes "plan") c.add-in-Plan.ensures, c.requires.room);
+}
