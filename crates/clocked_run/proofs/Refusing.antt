@@ -20,14 +20,14 @@ use Rattle.clocked_run.specs.Readings.{IsUnbuilt}
 use Rattle.clocked_run.specs.Refusals.{code_of_lexical, code_of_syntax, place_at}
 
 pub not_lexed : (bytes : List ℕ) (code : LexCode) (at : ℕ) (end : LexEnd) → end ≡ lex.Fault code at → Lexes bytes (Err end) → IsUnbuilt bytes (Refused (code_of_lexical code) (place_at bytes at))
-not_lexed bytes code at end is lexes = (Lexical code at, subst (λ e. Lexes bytes (Err e)) is lexes, refl)
+not_lexed bytes code at end is lexes = (Lexical code at, subst (λ e. Lexes bytes (Err e)) is lexes, refl, tt)
 
 pub not_parsed : (bytes : List ℕ) (tokens : List Token) (code : SyntaxCode) (at : ℕ) (end : ParseEnd) → end ≡ syntax.Fault code at → AreTokens bytes tokens → Answers bytes 64 tokens (Err end)
     → IsUnbuilt bytes (Refused (code_of_syntax code) (place_at bytes at))
 not_parsed bytes tokens code at end is belong answers =
     let fault : Answers bytes 64 tokens (Err (syntax.Fault code at)) = subst (λ e. Answers bytes 64 tokens (Err e)) is answers in
-    (Syntax code at, (tokens, fault.0, belong, fault.2, fault.1), refl)
+    (Syntax code at, (tokens, fault.0, belong, fault.2, fault.1), refl, tt)
 
 pub not_told : (bytes : List ℕ) (tokens : List Token) (tree : Tree) → length bytes ≤ model_limit → AreTokens bytes tokens → Spells bytes 64 tree tokens
     → ((model : FlatModel) (counter resolution : ℕ) → IsForm bytes tree model counter resolution → ⊥) → IsUnbuilt bytes (Refused B0 Model)
-not_told bytes tokens tree few belong spelled none = (NotBuilt, (tree, record { few_bytes = few; tokens = tokens; belong = belong; spelled = spelled }, none), refl)
+not_told bytes tokens tree few belong spelled none = (NotBuilt, (tree, record { few_bytes = few; tokens = tokens; belong = belong; spelled = spelled }, none), refl, tt)

@@ -1,8 +1,10 @@
 -- The right answers of a command, one cause at a time.
-use Rattle.std.proofs.Common.{◌≡◌, refl, ap, sym, subst, ◌∙◌, ℕ, suc, ◌+◌, ◌-◌, ◌<◌, ◌≤◌, List, [], ◌++◌, Option, Some, None, Ok, Err, codes, length, get_or, replicate, arith}
+use Rattle.std.proofs.Common.{◌≡◌, refl, ap, sym, subst, ◌∙◌, ℕ, suc, ◌+◌, ◌-◌, ◌<◌, ◌≤◌, List, [], ◌++◌, Option, Some, None, Result, Ok, Err, codes, length, get_or, replicate, arith}
 use Rattle.std.proofs.lemmas.List.{get_or_default, length-replicate}
 use Rattle.rational_time.specs.declared.ratio.Ratio.{Ratio}
 use Rattle.outside_io.specs.Files.{Told, Untold, NotHeld, File, IsWhole, IsLonger}
+use Rattle.outside_io.specs.Counts.{Rose}
+use Rattle.outside_io.specs.Texts.{grown}
 use Rattle.outside_io.proofs.Growth.{grown-nil}
 use Rattle.flat_model.specs.declared.clock.Moment.TheVariants.{At}
 use Rattle.flat_model.specs.declared.fault.FaultPlace.TheVariants.{Equation}
@@ -18,16 +20,18 @@ use Rattle.one_clock_run.proofs.Settings.{setting_of, setting_is, planned}
 use Rattle.one_clock_run.proofs.RunMeets.{whole_run}
 use Rattle.one_clock_run.proofs.RunFaults.{faulted_at, failing_moment}
 use Rattle.clocked_run.specs.declared.code.Code.TheVariants.{L0}
+use Rattle.clocked_run.specs.declared.command.UsageFault.{UsageFault}
 use Rattle.clocked_run.specs.declared.status.Status.{Status}
 use Rattle.clocked_run.specs.declared.status.Status.TheVariants as status
 use Rattle.clocked_run.specs.declared.stop.Stop.{Stop}
 use Rattle.clocked_run.specs.declared.stop.Stop.TheVariants.{Usage, Refused, Faulted, ReadFault, NoMemory, OutFailed}
 use Rattle.clocked_run.specs.Answer.{IsRead, AnswersModel, Rule, TooLong, Lexical, Syntax, NotBuilt, TooMany, BreaksText, line_of_rule, model_limit}
-use Rattle.clocked_run.specs.Command.{IsCommand}
-use Rattle.clocked_run.specs.Ends.{IsRight}
-use Rattle.clocked_run.specs.Readings.{AnswersAs, IsUnread, IsUnbuilt, StandsFor}
+use Rattle.clocked_run.specs.Command.{IsCommand, IsUsage}
+use Rattle.clocked_run.specs.Ends.{IsRight, Written, written}
+use Rattle.clocked_run.specs.Lines.{usage_line}
+use Rattle.clocked_run.specs.Readings.{AnswersAs, Answered, AnswersText, IsUnread, IsUnbuilt, StandsFor}
 use Rattle.clocked_run.specs.Refusals.{refusal_line}
-use Rattle.clocked_run.specs.Stops.{stop_of}
+use Rattle.clocked_run.specs.Stops.{IsShort, end_of}
 
 -- what a model is read as
 read_as : (bytes : List ℕ) (stop : Ratio) (one : OneClock) (ticks : ℕ) → StandsFor bytes one.model one.counter one.resolution → HasTicks one stop ticks
@@ -93,20 +97,18 @@ long_bytes Untold longer = let (bytes, over) = longer_than model_limit in (bytes
 long_bytes NotHeld longer = absurd longer
 long_bytes (File bytes) longer = (bytes, refl, longer)
 
--- what the words are right for, where they are a command
-module _ (words : List (List ℕ)) (told : List ℕ → Told) (rose : List ℕ → Type 0) (name : List ℕ) (stop : Ratio) (command : IsCommand words name stop) where
-  pub unread_right : (s : Stop) (old : Option (List ℕ)) → IsUnread (told name) (rose name) name s → AnswersAs (IsRight words told rose) old old (Err s)
-  unread_right (ReadFault read) old (same, cause) =
-      ([], (name, stop, command, (cause, refl, ap (λ n. codes "read fault: " ++ n ++ codes "\n") same)), sym (grown-nil old))
-  unread_right (Refused code place) old (code_is, place_is, longer) =
-      let (bytes, whole, over) = long_bytes (told name) longer in
-      ([], (name, stop, command, (bytes, whole, (TooLong, over, refl, ap (λ c. refusal_line c place) code_is ∙ ap (refusal_line L0) place_is))), sym (grown-nil old))
-  unread_right NoMemory old cause = ([], (name, stop, command, (refl, refl)), sym (grown-nil old))
-  unread_right (Usage fault) old cause = absurd cause
-  unread_right (Faulted kind at equation) old cause = absurd cause
-  unread_right OutFailed old cause = absurd cause
+-- out stays as it is
+stays : (old : Option (List ℕ)) → old ≡ grown [] old
+stays old = sym (grown-nil old)
 
-  module _ (bytes : List ℕ) (whole : IsWhole (told name) bytes) (few : length bytes ≤ model_limit) where
+-- refused words
+pub usage_answered : (words : List (List ℕ)) (told : List ℕ → Told) (rose : List ℕ → Type 0) (fault : UsageFault) (old : Option (List ℕ)) (count : ℕ) → IsUsage words (usage_line fault)
+    → Answered (IsRight words told rose) (written old old count count) (Err (Usage fault))
+usage_answered words told rose fault old count is = record { answers = ([], (is, refl), stays old); printable = tt; failed = λ e. absurd cc; counts = omega arith }
+
+-- the answers of the bytes of a model
+module _ (bytes : List ℕ) (stop : Ratio) where
+  module _ (few : length bytes ≤ model_limit) where
     text_broken : (rule : Rule) → BreaksText bytes rule → AnswersModel bytes stop status.Refused [] (line_of_rule bytes rule)
     text_broken (Lexical code at) broken = (Lexical code at, (few, broken), refl, refl)
     text_broken (Syntax code at) broken = (Syntax code at, (few, broken), refl, refl)
@@ -114,41 +116,100 @@ module _ (words : List (List ℕ)) (told : List ℕ → Told) (rose : List ℕ �
     text_broken TooLong broken = absurd broken
     text_broken TooMany broken = absurd broken
 
-    pub unbuilt_right : (s : Stop) (old : Option (List ℕ)) → IsUnbuilt bytes s → AnswersAs (IsRight words told rose) old old (Err s)
-    unbuilt_right (Refused code place) old (rule, broken, line) =
-        ([], subst (IsRight words told rose status.Refused []) (sym line) (name, stop, command, (bytes, whole, text_broken rule broken)), sym (grown-nil old))
-    unbuilt_right NoMemory old cause = ([], (name, stop, command, (refl, refl)), sym (grown-nil old))
-    unbuilt_right (ReadFault read) old cause = absurd cause
-    unbuilt_right (Usage fault) old cause = absurd cause
-    unbuilt_right (Faulted kind at equation) old cause = absurd cause
-    unbuilt_right OutFailed old cause = absurd cause
+    pub unbuilt_answered : (s : Stop) (old : Option (List ℕ)) (count : ℕ) → IsUnbuilt bytes s → Answered (AnswersText bytes stop) (written old old count count) (Err s)
+    unbuilt_answered (Refused code place) old count (rule, broken, line, short) = record {
+      answers = ([], subst (AnswersText bytes stop status.Refused []) (sym line) (text_broken rule broken), stays old);
+      printable = short;
+      failed = λ e. absurd cc;
+      counts = omega arith;
+    }
+    unbuilt_answered NoMemory old count cause = record { answers = ([], (refl, refl), stays old); printable = tt; failed = λ e. absurd cc; counts = omega arith }
+    unbuilt_answered (ReadFault read) old count cause = absurd cause
+    unbuilt_answered (Usage fault) old count cause = absurd cause
+    unbuilt_answered (Faulted kind at equation) old count cause = absurd cause
+    unbuilt_answered OutFailed old count cause = absurd cause
 
-    -- a status that a model's bytes answer
-    right_of : (s : Status) (out err : List ℕ) → AnswersModel bytes stop s out err → IsRight words told rose s out err
+  module _ (one : OneClock) (stands : StandsFor bytes one.model one.counter one.resolution) where
+    pub run_answered : (r : Result (Unit {0}) RunStop) (out : Written) → TracesAs one stop r out.old out.new → (r ≡ Err run.OutFailed → Rose out.before out.after) → out.before ≤ out.after
+        → Answered (AnswersText bytes stop) out (end_of r)
+    run_answered (Ok x) out (ts, plan, none, grew) rose counts =
+        record { answers = (run_text one.model ts, done_right bytes stop one stands ts plan none, grew); printable = tt; failed = λ e. absurd cc; counts = counts }
+    run_answered (Err run.TooLong) out (ticks, has, over, same) rose counts = record {
+      answers = ([], (TooMany, (one.model, one.counter, one.resolution, 1 + ticks, read_as bytes stop one ticks stands has, over), refl, refl), same ∙ stays out.old);
+      printable = tt;
+      failed = λ e. absurd cc;
+      counts = counts;
+    }
+    run_answered (Err run.NoMemory) out same rose counts = record { answers = ([], (refl, refl), same ∙ stays out.old); printable = tt; failed = λ e. absurd cc; counts = counts }
+    run_answered (Err (run.Faulted kind at equation)) out (ts, plan, fails, grew) rose counts = record {
+      answers = (
+        run_text one.model ts,
+        faulted_right bytes stop one stands ts plan (record { moment = suc fails.k; failing = record { equation = equation; kind = kind } }) at fails.fails
+            (ap (λ j. get_or ts j at) (let e : suc fails.k - 1 ≡ fails.k = omega arith in e) ∙ sym fails.at_is),
+        grew,
+      );
+      printable = tt;
+      failed = λ e. absurd cc;
+      counts = counts;
+    }
+    run_answered (Err run.OutFailed) out (ts, plan, grew) rose counts =
+        let some = some_right bytes stop one stands ts plan in record {
+          answers = (some.0, run_text one.model ts, some.1, as_text some.0 (run_text one.model ts) some.1 some.2, (λ e. cc), grew);
+          printable = tt;
+          failed = λ e. rose refl;
+          counts = counts;
+        }
+      where
+        as_text : (s : Status) (out err : List ℕ) → AnswersModel bytes stop s out err → AnswersText bytes stop s out err
+        as_text status.Done out err is = is
+        as_text status.Refused out err is = is
+        as_text status.Faulted out err is = is
+        as_text status.Usage out err is = is
+        as_text status.ReadFault out err is = is
+        as_text status.WriteFault out err is = is
+        as_text status.NoMemory out err is = absurd is
+
+-- what the words are right for, where they are a command
+module _ (words : List (List ℕ)) (told : List ℕ → Told) (rose : List ℕ → Type 0) (name : List ℕ) (stop : Ratio) (command : IsCommand words name stop) where
+  pub unread_answered : (s : Stop) (old : Option (List ℕ)) (count : ℕ) → IsUnread (told name) (rose name) name s → Answered (IsRight words told rose) (written old old count count) (Err s)
+  unread_answered (ReadFault read) old count (same, cause) = record {
+    answers = ([], (name, stop, command, (cause, refl, ap (λ n. codes "read fault: " ++ n ++ codes "\n") same)), stays old);
+    printable = tt;
+    failed = λ e. absurd cc;
+    counts = omega arith;
+  }
+  unread_answered (Refused code place) old count (code_is, place_is, longer) =
+      let (bytes, whole, over) = long_bytes (told name) longer in record {
+        answers = ([], (name, stop, command, (bytes, whole, (TooLong, over, refl, ap (λ c. refusal_line c place) code_is ∙ ap (refusal_line L0) place_is))), stays old);
+        printable = subst IsShort (sym place_is) tt;
+        failed = λ e. absurd cc;
+        counts = omega arith;
+      }
+  unread_answered NoMemory old count cause =
+      record { answers = ([], (name, stop, command, (refl, refl)), stays old); printable = tt; failed = λ e. absurd cc; counts = omega arith }
+  unread_answered (Usage fault) old count cause = absurd cause
+  unread_answered (Faulted kind at equation) old count cause = absurd cause
+  unread_answered OutFailed old count cause = absurd cause
+
+  module _ (bytes : List ℕ) (whole : IsWhole (told name) bytes) where
+    -- an answer of a model's bytes
+    right_of : (s : Status) (out err : List ℕ) → AnswersText bytes stop s out err → IsRight words told rose s out err
     right_of status.Done out err is = (name, stop, command, (bytes, whole, is))
     right_of status.Refused out err is = (name, stop, command, (bytes, whole, is))
     right_of status.Faulted out err is = (name, stop, command, (bytes, whole, is))
+    right_of status.NoMemory out err is = (name, stop, command, is)
     right_of status.Usage out err is = absurd is
     right_of status.ReadFault out err is = absurd is
     right_of status.WriteFault out err is = absurd is
-    right_of status.NoMemory out err is = absurd is
 
-    module _ (one : OneClock) (stands : StandsFor bytes one.model one.counter one.resolution) where
-      pub done_traced : (old new : Option (List ℕ)) → TracesAs one stop (Ok tt) old new → AnswersAs (IsRight words told rose) old new (Ok tt)
-      done_traced old new (ts, plan, none, grew) =
-          (run_text one.model ts, right_of status.Done (run_text one.model ts) [] (done_right bytes stop one stands ts plan none), grew)
+    answers_of : (r : Result (Unit {0}) Stop) (old new : Option (List ℕ)) → AnswersAs (AnswersText bytes stop) old new r → AnswersAs (IsRight words told rose) old new r
+    answers_of (Ok x) old new (out, is, grew) = (out, right_of status.Done out [] is, grew)
+    answers_of (Err OutFailed) old new (s, out, err, is, some, grew) = (s, out, err, right_of s out err is, some, grew)
+    answers_of (Err (Refused code place)) old new (out, is, grew) = (out, right_of status.Refused out _ is, grew)
+    answers_of (Err (Faulted kind at equation)) old new (out, is, grew) = (out, right_of status.Faulted out _ is, grew)
+    answers_of (Err NoMemory) old new (out, is, grew) = (out, right_of status.NoMemory out _ is, grew)
+    answers_of (Err (Usage fault)) old new (out, is, grew) = absurd is
+    answers_of (Err (ReadFault read)) old new (out, is, grew) = absurd is
 
-      pub stop_traced : (end : RunStop) (old new : Option (List ℕ)) → TracesAs one stop (Err end) old new → AnswersAs (IsRight words told rose) old new (Err (stop_of end))
-      stop_traced run.TooLong old new (ticks, has, over, same) =
-          ([], (name, stop, command, (bytes, whole, (TooMany, (one.model, one.counter, one.resolution, 1 + ticks, read_as bytes stop one ticks stands has, over), refl, refl))), same ∙ sym (grown-nil old))
-      stop_traced run.NoMemory old new same = ([], (name, stop, command, (refl, refl)), same ∙ sym (grown-nil old))
-      stop_traced (run.Faulted kind at equation) old new (ts, plan, fails, grew) = (
-        run_text one.model ts,
-        right_of status.Faulted (run_text one.model ts) (fault_line (At at) (Equation equation) kind)
-            (faulted_right bytes stop one stands ts plan (record { moment = suc fails.k; failing = record { equation = equation; kind = kind } }) at fails.fails
-            (ap (λ j. get_or ts j at) (let e : suc fails.k - 1 ≡ fails.k = omega arith in e) ∙ sym fails.at_is)),
-        grew,
-      )
-      stop_traced run.OutFailed old new (ts, plan, grew) =
-          let some = some_right bytes stop one stands ts plan in
-          (some.0, run_text one.model ts, some.1, right_of some.0 (run_text one.model ts) some.1 some.2, (λ e. cc), grew)
+    pub text_answered : (r : Result (Unit {0}) Stop) (out : Written) → Answered (AnswersText bytes stop) out r → Answered (IsRight words told rose) out r
+    text_answered r out text = record { answers = answers_of r out.old out.new text.answers; printable = text.printable; failed = text.failed; counts = text.counts }

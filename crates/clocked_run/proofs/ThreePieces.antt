@@ -1,8 +1,11 @@
 -- A line that is put in three pieces.
-use Rattle.std.proofs.Common.{◌≡◌, ap, sym, subst, ◌∙◌, ℕ, List, [], ◌++◌, Option, append_assoc, append-nil}
+use Rattle.std.proofs.Common.{◌≡◌, ap, sym, subst, ◌∙◌, ℕ, ◌≤◌, inl, inr, List, [], ◌++◌, Option, append_assoc, append-nil, arith}
+use Rattle.outside_io.specs.Counts.{Rose}
 use Rattle.outside_io.specs.Texts.{grown, GrewByPrefix}
 use Rattle.outside_io.proofs.Growth.{grown-nil, grown-grown}
 use Rattle.one_clock_run.proofs.RowsLemmas.{GrewByPrefix-after}
+use Rattle.clocked_run.specs.declared.status.Status.{Status}
+use Rattle.clocked_run.specs.Stops.{PutsLine}
 
 pub all_put : (a b c : List ℕ) (old one two three : Option (List ℕ)) → one ≡ grown a old → two ≡ grown b one → three ≡ grown c two → three ≡ grown (a ++ b ++ c) old
 all_put a b c old one two three first second third =
@@ -20,3 +23,14 @@ pub third_failed : (a b c : List ℕ) (old one two three : Option (List ℕ)) �
 third_failed a b c old one two three first second grew =
     GrewByPrefix-after (a ++ b) c [] (a ++ b ++ c) old three (ap (λ r. a ++ b ++ r) (append-nil c))
     (subst (λ o. GrewByPrefix c o three) (second ∙ ap (grown b) first ∙ grown-grown a b old) grew)
+
+-- a count that rose later rose
+pub rose_later : (before middle after : ℕ) → before ≤ middle → Rose middle after → Rose before after
+rose_later before middle after up rose = omega (arith, up, rose)
+
+-- the last piece was put, or err failed in the midst of it
+pub last_put : (right s : Status) (a b c : List ℕ) (old one two three : Option (List ℕ)) (before middle after : ℕ) → one ≡ grown a old → two ≡ grown b one → before ≤ middle
+    → PutsLine right c s two three middle after → PutsLine right (a ++ b ++ c) s old three before after
+last_put right s a b c old one two three before middle after first second up (inl (same, put)) = inl (same, all_put a b c old one two three first second put)
+last_put right s a b c old one two three before middle after first second up (inr (same, rose, prefix)) =
+    inr (same, rose_later before middle after up rose, third_failed a b c old one two three first second prefix)

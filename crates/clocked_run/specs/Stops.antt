@@ -1,5 +1,5 @@
 -- Why a command did not run to its stop, as a status and a line on err.
-use Rattle.std.specs.Prelude.{◌≡◌, ℕ, ◌⊎◌, ◌≤◌, length, List, [], ◌++◌, Option, codes}
+use Rattle.std.specs.Prelude.{◌≡◌, ℕ, ◌⊎◌, ◌≤◌, length, List, [], ◌++◌, Option, Result, Ok, Err, codes}
 use Rattle.outside_io.specs.Counts.{Rose}
 use Rattle.outside_io.specs.Texts.{grown, GrewByPrefix}
 use Rattle.flat_model.specs.declared.clock.Moment.TheVariants.{At}
@@ -59,3 +59,8 @@ stop_of run.TooLong = Refused P1 place.Plan
 stop_of run.NoMemory = NoMemory
 stop_of (run.Faulted kind at equation) = Faulted kind at equation
 stop_of run.OutFailed = OutFailed
+
+-- how a run ended, as it is reported
+abbrev pub end_of : Result (Unit {0}) RunStop → Result (Unit {0}) Stop
+end_of (Ok x) = Ok x
+end_of (Err stop) = Err (stop_of stop)

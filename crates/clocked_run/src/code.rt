@@ -1,5 +1,5 @@
 /// The code of a broken rule.
-#[derive(Clone, Copy, Debug, PartialEq, Eq)]
+#[derive(Clone, Copy)]
 pub enum Code {
     /// The file has more bytes than its limit.
     L0,

@@ -6,14 +6,14 @@ ghost use Rattle.clocked_run.specs.Lines.{usage_line};
 use rational_time::{Ratio, read};
 
 /// What a command asks for: the run of a model up to a stop, in seconds.
-#[derive(Debug, Drop)]
+#[derive(Drop)]
 pub struct Command<'a> {
     pub model: &'a str,
     pub stop: Ratio,
 }
 
 /// Why words are no command.
-#[derive(Clone, Copy, Debug, PartialEq, Eq)]
+#[derive(Clone, Copy)]
 pub enum UsageFault {
     Words,
     Stop,

@@ -75,8 +75,7 @@ impl ErrLine {
         line.add(kind_text(kind));
         line.add(b" at ");
         line.add_instant(at);
-        line.add(b" in ");
-        line.add(b"equation ");
+        line.add(b" in equation ");
         let mut number = Buffer::new();
         line.add(number.format(equation as u128 + 1).as_bytes());
         line.add(b"\n");

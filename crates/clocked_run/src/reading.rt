@@ -1,9 +1,8 @@
-ghost use Rattle.std.specs.Prelude.{◌≡◌, ◌≤◌, ℕ, List, IfOk, IfErr, length};
+ghost use Rattle.std.specs.Prelude.{◌≡◌, ◌≤◌, IfOk, IfErr, length};
 ghost use Rattle.outside_io.specs.Counts.{Rose};
-ghost use Rattle.outside_io.specs.Files.{told, IsWhole};
-ghost use Rattle.clocked_run.specs.Readings.{IsUnbuilt, IsUnread, StandsFor};
+ghost use Rattle.outside_io.specs.Files.{told};
+ghost use Rattle.clocked_run.specs.Readings.{IsModelRead, IsUnbuilt, IsUnread, KeepsShelf, StandsFor};
 ghost use Rattle.clocked_run.specs.Refusals.{code_of_lexical, code_of_syntax, place_at};
-ghost use Rattle.clocked_run.specs.Stops.{IsPrintable};
 ghost use Rattle.clocked_run.specs.declared.stop.Stop.TheVariants.{Refused};
 
 use crate::code::Code;
@@ -25,13 +24,9 @@ pub fn read_model<'a, S: Shelf>(
     shelf: &mut S,
     model: &'a str,
 ) -> Result<Vec<u8>, Stop<'a>>
-    ensures whole { IfOk result (λ bytes. IsWhole (told (S.held shelf.old) (S.gives_empty shelf.old) model.entry.now) bytes.items) }
-    ensures within { IfOk result (λ bytes. length bytes.items ≤ 1048576) }
+    ensures read { IfOk result (λ bytes. IsModelRead (told (S.held shelf.old) (S.gives_empty shelf.old) model.entry.now) bytes.items) }
     ensures unread { IfErr result (IsUnread (told (S.held shelf.old) (S.gives_empty shelf.old) model.entry.now) (Rose (S.faults shelf.old model.entry.now) (S.faults shelf.new model.entry.now)) model.entry.now) }
-    ensures printable { IfErr result IsPrintable }
-    ensures counts { (name : List ℕ) → S.faults shelf.old name ≤ S.faults shelf.new name }
-    ensures holds { S.held shelf.new ≡ S.held shelf.old }
-    ensures flag { S.gives_empty shelf.new ≡ S.gives_empty shelf.old }
+    ensures shelf { KeepsShelf (S.held shelf.old) (S.held shelf.new) (S.gives_empty shelf.old) (S.gives_empty shelf.new) (S.faults shelf.old) (S.faults shelf.new) }
 {
     match read_whole(alloc, shelf, model, MODEL_LIMIT) {
         Ok(bytes) => Ok(bytes),
@@ -80,7 +75,6 @@ pub fn read_one_clock(alloc: Global, bytes: &[u8]) -> Result<OneClock, Stop<'sta
     requires { length bytes.now ≤ 1048576 }
     ensures stands { IfOk result (λ m. StandsFor bytes.now m.model m.counter m.resolution) }
     ensures unbuilt { IfErr result (IsUnbuilt bytes.now) }
-    ensures printable { IfErr result IsPrintable }
 {
     let tokens = match lex(alloc, bytes) {
         Ok(tokens) => tokens,

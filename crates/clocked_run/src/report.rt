@@ -1,6 +1,4 @@
-ghost use Rattle.std.specs.Prelude.{◌≡◌, ◌≤◌, ◌++◌, ℕ, List, codes, length, OnOk, OnErr};
-ghost use Rattle.outside_io.specs.Counts.{Rose};
-ghost use Rattle.outside_io.specs.Texts.{grown, GrewByPrefix};
+ghost use Rattle.std.specs.Prelude.{◌≡◌, ◌≤◌, ◌++◌, codes};
 ghost use Rattle.clocked_run.specs.Lines.{usage_line};
 ghost use Rattle.clocked_run.specs.Stops.{IsPrintable, PutsLine, Reports};
 
@@ -8,7 +6,7 @@ use crate::command::UsageFault;
 use crate::err_line::ErrLine;
 use crate::status::Status;
 use crate::stop::Stop;
-use outside_io::{Sink, WriteFailed, put_all};
+use outside_io::{Sink, put_all};
 
 /// Puts the line of a stop on err, and gives the status.
 pub fn report<E: Sink>(stop: &Stop<'_>, err: &mut E) -> Status
@@ -26,10 +24,7 @@ pub fn report<E: Sink>(stop: &Stop<'_>, err: &mut E) -> Status
             let line = ErrLine::fault(*kind, *at, *equation);
             put_line(err, Status::Faulted, line.bytes())
         }
-        Stop::ReadFault(name) => match put_read_fault(err, name) {
-            Ok(()) => Status::ReadFault,
-            Err(_) => Status::WriteFault,
-        },
+        Stop::ReadFault(name) => put_read_fault(err, name),
         Stop::NoMemory => put_line(err, Status::NoMemory, b"no memory\n"),
         Stop::OutFailed => Status::WriteFault,
     }
@@ -55,19 +50,17 @@ fn put_line<E: Sink>(err: &mut E, status: Status, line: &[u8]) -> Status
 }
 
 /// Puts the line of a read fault in three pieces, so that it takes no memory.
-fn put_read_fault<E: Sink>(err: &mut E, name: &str) -> Result<(), WriteFailed>
-    ensures ok { OnOk result (E.text err.new ≡ grown (codes "read fault: " ++ name.now ++ codes "\n") (E.text err.old)) }
-    ensures err { OnErr result (GrewByPrefix (codes "read fault: " ++ name.now ++ codes "\n") (E.text err.old) (E.text err.new)) }
-    ensures failed { OnErr result (Rose (E.faults err.old) (E.faults err.new)) }
+fn put_read_fault<E: Sink>(err: &mut E, name: &str) -> Status
+    ensures puts { PutsLine Status.ReadFault (codes "read fault: " ++ name.now ++ codes "\n") result (E.text err.old) (E.text err.new) (E.faults err.old) (E.faults err.new) }
     ensures counts { E.faults err.old ≤ E.faults err.new }
 {
     match put_all(err, b"read fault: ") {
         Ok(()) => {}
-        Err(failed) => return Err(failed),
+        Err(_) => return Status::WriteFault,
     }
     match put_all(err, name.as_bytes()) {
         Ok(()) => {}
-        Err(failed) => return Err(failed),
+        Err(_) => return Status::WriteFault,
     }
-    put_all(err, b"\n")
+    put_line(err, Status::ReadFault, b"\n")
 }

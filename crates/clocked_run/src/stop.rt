@@ -5,7 +5,7 @@ use rational_time::Ratio;
 use sync_values::Fail;
 
 /// Why a command did not run to its stop.
-#[derive(Debug, Drop)]
+#[derive(Drop)]
 pub enum Stop<'a> {
     Usage(UsageFault),
     /// The first broken rule, and its place.

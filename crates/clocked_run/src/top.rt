@@ -1,11 +1,11 @@
-ghost use Rattle.std.specs.Prelude.{◌≡◌, ◌≤◌, ◌⊎◌, ℕ, List, Err, IfErr, map, string_bytes};
+ghost use Rattle.std.specs.Prelude.{◌≡◌, ◌≤◌, ◌<◌, ◌*◌, ◌^◌, ◌⊎◌, ℕ, List, length, map, string_bytes};
 ghost use Rattle.outside_io.specs.Counts.{Rose};
 ghost use Rattle.outside_io.specs.Files.{File, told};
 ghost use Rattle.rational_time.specs.declared.ratio.Ratio.{Ratio};
 ghost use Rattle.clocked_run.specs.Command.{IsCommand, IsUsage};
 ghost use Rattle.clocked_run.specs.Ends.{EndsAs, IsComplete, IsRight, written};
-ghost use Rattle.clocked_run.specs.Readings.{AnswersAs};
-ghost use Rattle.clocked_run.specs.Stops.{IsPrintable, stop_of};
+ghost use Rattle.clocked_run.specs.Readings.{Answered, AnswersText, KeepsShelf};
+ghost use Rattle.clocked_run.specs.Stops.{end_of};
 
 use crate::code::Code;
 use crate::command::read_command;
@@ -16,6 +16,7 @@ use crate::stop::Stop;
 use flat_model::Place;
 use one_clock_run::{RunStop, trace};
 use outside_io::{Gate, Shelf, Sink};
+use rational_time::Ratio;
 use std::alloc::Global;
 use std::thread::Threads;
 
@@ -67,9 +68,8 @@ fn carry_out<S: Shelf, O: Sink, E: Sink>(
     ensures ends { EndsAs (IsRight (map string_bytes words.now) (told (S.held shelf.old) (S.gives_empty shelf.old)) (λ name. Rose (S.faults shelf.old name) (S.faults shelf.new name)))
         (written (O.text out.old) (O.text out.new) (O.faults out.old) (O.faults out.new))
         (written (E.text err.old) (E.text err.new) (E.faults err.old) (E.faults err.new)) result }
-    ensures counts { (O.faults out.old ≤ O.faults out.new) × (E.faults err.old ≤ E.faults err.new) × ((name : List ℕ) → S.faults shelf.old name ≤ S.faults shelf.new name) }
-    ensures holds { S.held shelf.new ≡ S.held shelf.old }
-    ensures flag { S.gives_empty shelf.new ≡ S.gives_empty shelf.old }
+    ensures counts { (O.faults out.old ≤ O.faults out.new) × (E.faults err.old ≤ E.faults err.new) }
+    ensures shelf { KeepsShelf (S.held shelf.old) (S.held shelf.new) (S.gives_empty shelf.old) (S.gives_empty shelf.new) (S.faults shelf.old) (S.faults shelf.new) }
 {
     match answer(alloc, words, shelf, out) {
         Ok(()) => Status::Done,
@@ -84,43 +84,50 @@ fn answer<'a, S: Shelf, O: Sink>(
     shelf: &mut S,
     out: &mut O,
 ) -> Result<(), Stop<'a>>
-    ensures answers { AnswersAs (IsRight (map string_bytes words.entry.now) (told (S.held shelf.old) (S.gives_empty shelf.old)) (λ name. Rose (S.faults shelf.old name) (S.faults shelf.new name)))
-        (O.text out.old) (O.text out.new) result }
-    ensures printable { IfErr result IsPrintable }
-    ensures failed { result ≡ Err Stop.OutFailed → Rose (O.faults out.old) (O.faults out.new) }
-    ensures counts { (O.faults out.old ≤ O.faults out.new) × ((name : List ℕ) → S.faults shelf.old name ≤ S.faults shelf.new name) }
-    ensures holds { S.held shelf.new ≡ S.held shelf.old }
-    ensures flag { S.gives_empty shelf.new ≡ S.gives_empty shelf.old }
+    ensures answered { Answered (IsRight (map string_bytes words.entry.now) (told (S.held shelf.old) (S.gives_empty shelf.old)) (λ name. Rose (S.faults shelf.old name) (S.faults shelf.new name)))
+        (written (O.text out.old) (O.text out.new) (O.faults out.old) (O.faults out.new)) result }
+    ensures shelf { KeepsShelf (S.held shelf.old) (S.held shelf.new) (S.gives_empty shelf.old) (S.gives_empty shelf.new) (S.faults shelf.old) (S.faults shelf.new) }
 {
     let command = match read_command(words) {
         Ok(command) => command,
         Err(fault) => return Err(Stop::Usage(fault)),
     };
-    let bytes = match read_model(alloc, shelf, command.model) {
-        Ok(bytes) => bytes,
-        Err(stop) => return Err(stop),
-    };
-    let model = match read_one_clock(alloc, bytes.as_slice()) {
-        Ok(model) => model,
-        Err(stop) => return Err(stop),
-    };
-    match trace(alloc, &model, command.stop, out) {
-        Ok(()) => Ok(()),
-        Err(end) => Err(stop_of(end)),
+    match read_model(alloc, shelf, command.model) {
+        Ok(bytes) => run_text(alloc, bytes.as_slice(), command.stop, out),
+        Err(stop) => Err(stop),
     }
 }
 
-/// Why a run did not reach its stop, as it is reported.
-fn stop_of(end: RunStop) -> Stop<'static>
-    ensures { result ≡ stop_of end }
+/// Runs the model of one clock that a text stands for.
+fn run_text<O: Sink>(
+    alloc: Global,
+    text: &[u8],
+    stop: Ratio,
+    out: &mut O,
+) -> Result<(), Stop<'static>>
+    requires few { length text.now ≤ 1048576 }
+    requires early { stop.num < 2 ^ 20 * stop.den }
+    requires grain { stop.den < 2 ^ 32 }
+    ensures { Answered (AnswersText text.now stop) (written (O.text out.old) (O.text out.new) (O.faults out.old) (O.faults out.new)) result }
 {
-    match end {
-        RunStop::TooLong => Stop::Refused {
+    match read_one_clock(alloc, text) {
+        Ok(model) => end_of(trace(alloc, &model, stop, out)),
+        Err(stop) => Err(stop),
+    }
+}
+
+/// How a run ended, as it is reported.
+fn end_of(run: Result<(), RunStop>) -> Result<(), Stop<'static>>
+    ensures { result ≡ end_of run }
+{
+    match run {
+        Ok(()) => Ok(()),
+        Err(RunStop::TooLong) => Err(Stop::Refused {
             code: Code::P1,
             place: Place::Plan,
-        },
-        RunStop::NoMemory => Stop::NoMemory,
-        RunStop::Faulted { kind, at, equation } => Stop::Faulted { kind, at, equation },
-        RunStop::OutFailed => Stop::OutFailed,
+        }),
+        Err(RunStop::NoMemory) => Err(Stop::NoMemory),
+        Err(RunStop::Faulted { kind, at, equation }) => Err(Stop::Faulted { kind, at, equation }),
+        Err(RunStop::OutFailed) => Err(Stop::OutFailed),
     }
 }

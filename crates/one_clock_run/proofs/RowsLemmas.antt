@@ -1,5 +1,5 @@
 -- The rows of a run, one more tick at a time.
-use Rattle.std.proofs.Common.{◌≡◌, refl, ap, sym, subst, ◌∙◌, ℕ, ◌+◌, ◌≤◌, List, [], ◌∷◌, ◌++◌, Option, Some, Ok, Err, length, take, length-append, get_or, drop, append_assoc, ◌<◌, suc, arith}
+use Rattle.std.proofs.Common.{◌≡◌, refl, ap, sym, subst, ◌∙◌, ℕ, ◌+◌, ◌≤◌, Bool, if◌then◌else◌, codes, map, List, [], ◌∷◌, ◌++◌, Option, Some, Ok, Err, length, take, length-append, get_or, drop, append_assoc, ◌<◌, suc, arith}
 use Rattle.std.proofs.Math.Seq.{take-append-add}
 use Rattle.std.proofs.lemmas.List.{take-append-le, drop_more}
 use Rattle.rational_time.specs.declared.ratio.Ratio.{Ratio}
@@ -7,7 +7,10 @@ use Rattle.outside_io.specs.Texts.{grown, GrewByPrefix}
 use Rattle.outside_io.proofs.Growth.{grown-grown}
 use Rattle.sync_values.specs.declared.value.Value.{Value}
 use Rattle.flat_model.specs.declared.equation.Equation.{Equation}
-use Rattle.one_clock_run.specs.Computed.{stepped, rows_from, first_failing, tick_text, Failing}
+use Rattle.flat_model.specs.declared.model.FlatName.{FlatName}
+use Rattle.flat_model.specs.Trace.{is_column, column_texts, cells_text, cell_text, value_text}
+use Rattle.one_clock_run.specs.Lines.{names_len}
+use Rattle.one_clock_run.specs.Computed.{starts_of, stepped, rows_from, first_failing, tick_text, Failing}
 
 -- a tick that goes through gives its row, and then those of the rest
 pub rows_more : (equations : List Equation) (before now : List Value) (t : Ratio) (rest : List Ratio) → stepped equations before ≡ Ok now
@@ -27,9 +30,36 @@ pub failing_here : (equations : List Equation) (before : List Value) (failing : 
     → first_failing equations before m (t ∷ rest) ≡ Some (record { moment = m; failing = failing })
 failing_here equations before failing m t rest is = rw is refl
 
--- what is left of the instants at one of them
-left_at : (instants : List Ratio) (k : ℕ) (t : Ratio) → k < length instants → t ≡ get_or instants k t → drop k instants ≡ t ∷ drop (k + 1) instants
-left_at instants k t within at = drop_more instants k t within ∙ ap (λ u. u ∷ drop (k + 1) instants) (sym at)
+-- what is left of a list at one of its items
+left_at : {A : Type 0} (xs : List A) (k : ℕ) (x : A) → k < length xs → x ≡ get_or xs k x → drop k xs ≡ x ∷ drop (k + 1) xs
+left_at xs k x within at = drop_more xs k x within ∙ ap (λ u. u ∷ drop (k + 1) xs) (sym at)
+
+-- the start of one more name
+pub starts_more : (names : List FlatName) (k : ℕ) (name : FlatName) (done all : List Value) → k < length names → name ≡ get_or names k name → done ++ starts_of (drop k names) ≡ all
+    → (done ++ name.start ∷ []) ++ starts_of (drop (k + 1) names) ≡ all
+starts_more names k name done all within at so_far =
+    append_assoc done (name.start ∷ []) (starts_of (drop (k + 1) names)) ∙ ap (λ rest. done ++ starts_of rest) (sym (left_at names k name within at)) ∙ so_far
+
+-- one more cell of a line
+pub cell_more : (done cell : List ℕ) (rest : List (List ℕ)) (all : List ℕ) → done ++ cells_text (cell ∷ rest) ≡ all → ((done ++ codes ",") ++ cell) ++ cells_text rest ≡ all
+cell_more done cell rest all so_far = append_assoc (done ++ codes ",") cell (cells_text rest) ∙ append_assoc done (codes ",") (cell ++ cells_text rest) ∙ so_far
+
+-- the cell of a name that is a column, and none of one that is not
+pub columns_at : (names : List FlatName) (k : ℕ) (name : FlatName) (b : Bool) → k < length names → name ≡ get_or names k name → is_column name.kind ≡ b
+    → column_texts (drop k names) ≡ (if b then (name.text ∷ column_texts (drop (k + 1) names)) else column_texts (drop (k + 1) names))
+columns_at names k name b within at is =
+    ap column_texts (left_at names k name within at) ∙ ap (λ t. if t then (name.text ∷ column_texts (drop (k + 1) names)) else column_texts (drop (k + 1) names)) is
+
+pub names_len_at : (names : List FlatName) (k : ℕ) (name : FlatName) → k < length names → name ≡ get_or names k name → names_len (drop k names) ≡ length name.text + 1 + names_len (drop (k + 1) names)
+names_len_at names k name within at = ap names_len (left_at names k name within at)
+
+-- a row with one more value
+pub row_more : (values : List Value) (k : ℕ) (v : Value) (done after all : List ℕ) → k < length values → after ≡ (done ++ codes ",") ++ value_text (get_or values k v)
+    → done ++ cells_text (map cell_text (map (λ v. Some v) (drop k values))) ≡ all → after ++ cells_text (map cell_text (map (λ v. Some v) (drop (k + 1) values))) ≡ all
+row_more values k v done after all within is so_far =
+    ap (λ text. text ++ cells_text (map cell_text (map (λ v. Some v) (drop (k + 1) values)))) is
+    ∙ cell_more done (value_text (get_or values k v)) (map cell_text (map (λ v. Some v) (drop (k + 1) values))) all
+    (ap (λ vs. done ++ cells_text (map cell_text (map (λ v. Some v) vs))) (sym (drop_more values k v within)) ∙ so_far)
 
 -- the rows that are left, at an instant whose tick goes through
 pub rows_at : (equations : List Equation) (before now : List Value) (instants : List Ratio) (k : ℕ) (t : Ratio) → k < length instants → t ≡ get_or instants k t → stepped equations before ≡ Ok now

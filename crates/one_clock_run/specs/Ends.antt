@@ -6,9 +6,9 @@ use Rattle.outside_io.specs.Texts.{grown, GrewByPrefix}
 use Rattle.sync_values.specs.declared.value.Value.{Value}
 use Rattle.flat_model.specs.declared.equation.Equation.{Equation}
 use Rattle.one_clock_run.specs.declared.part.Failing.{Failing}
-use Rattle.one_clock_run.specs.declared.runner.RunEnd.{RunEnd}
-use Rattle.one_clock_run.specs.declared.runner.RunEnd.TheVariants.{Faulted, WriteFailed}
-use Rattle.one_clock_run.specs.Computed.{rows_from, first_failing}
+use Rattle.one_clock_run.specs.declared.run_trace.RunStop.{RunStop}
+use Rattle.one_clock_run.specs.declared.run_trace.RunStop.TheVariants.{Faulted, OutFailed}
+use Rattle.one_clock_run.specs.Computed.{first_failing}
 use Rattle.one_clock_run.specs.Steps.{failing_of}
 
 -- the first failing tick is that of instant k of the list, which is `at`
@@ -18,10 +18,10 @@ pub record FailsAt (at : Ratio) (failing : Failing) (equations : List Equation) 
   pub at_is : at ≡ slice_index_or instants k at
   pub fails : first_failing equations starts 1 instants ≡ Some (record { moment = suc k; failing = failing_of failing })
 
--- nothing failed and every row was put; or the first failing tick was met behind its rows; or a put failed in the midst of the rows
-abbrev pub RunsAs : Result (Unit {0}) RunEnd → List Equation → List Value → List Ratio → Option (List ℕ) → Option (List ℕ) → Type 0
-RunsAs (Ok x) equations starts instants old new =
-    (first_failing equations starts 1 instants ≡ None) × (new ≡ grown (rows_from equations starts instants) old)
-RunsAs (Err (Faulted at failing)) equations starts instants old new =
-    FailsAt at failing equations starts instants × (new ≡ grown (rows_from equations starts instants) old)
-RunsAs (Err WriteFailed) equations starts instants old new = GrewByPrefix (rows_from equations starts instants) old new
+-- nothing failed and the whole text was put; or the first failing tick was met behind the text; or a put failed in the midst of it
+abbrev pub RunsAs : Result (Unit {0}) RunStop → List ℕ → List Equation → List Value → List Ratio → Option (List ℕ) → Option (List ℕ) → Type 0
+RunsAs (Ok x) text equations starts instants old new = (first_failing equations starts 1 instants ≡ None) × (new ≡ grown text old)
+RunsAs (Err (Faulted kind at equation)) text equations starts instants old new =
+    FailsAt at (record { equation = equation; kind = kind }) equations starts instants × (new ≡ grown text old)
+RunsAs (Err OutFailed) text equations starts instants old new = GrewByPrefix text old new
+RunsAs (Err _) text equations starts instants old new = ⊥

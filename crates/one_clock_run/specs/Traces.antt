@@ -2,6 +2,7 @@
 use Rattle.std.specs.Prelude.{◌≡◌, ℕ, ◌+◌, ◌<◌, ◌≤◌, List, ◌++◌, Option, None, Result, Ok, Err}
 use Rattle.rational_time.specs.declared.ratio.Ratio.{Ratio}
 use Rattle.outside_io.specs.Texts.{grown, GrewByPrefix}
+use Rattle.sync_values.specs.declared.value.Value.{Value}
 use Rattle.flat_model.specs.declared.model.FlatModel.{FlatModel}
 use Rattle.flat_model.specs.Trace.{header_text}
 use Rattle.one_clock.specs.declared.form.OneClock.{OneClock}
@@ -9,7 +10,9 @@ use Rattle.one_clock_run.specs.declared.run_trace.RunStop.{RunStop}
 use Rattle.one_clock_run.specs.declared.run_trace.RunStop.TheVariants.{TooLong, NoMemory, Faulted, OutFailed}
 use Rattle.one_clock_run.specs.Computed.{HasTickCount, AreRunInstants, starts_of, rows_from, first_failing}
 use Rattle.one_clock_run.specs.Ends.{FailsAt}
+use Rattle.one_clock_run.specs.Lines.{FitsLines}
 use Rattle.one_clock_run.specs.Setting.{IsClockOf}
+use Rattle.one_clock_run.specs.Values.{AreFirstValues}
 
 -- the most ticks and rows of a run
 abbrev pub plan_limit : ℕ
@@ -28,6 +31,12 @@ pub record IsPlan (one : OneClock) (stop : Ratio) (instants : List Ratio) : Type
   pub has_ticks : HasTicks one stop ticks
   pub few : 1 + ticks ≤ plan_limit
   pub instants_are : AreRunInstants one.model.equations has_ticks.period has_ticks.start stop instants
+
+-- what a run keeps: its instants, its first values, and room for a line
+pub record IsMemory (model : FlatModel) (period start stop : Ratio) (instants : List Ratio) (latest before : List Value) (room : ℕ) : Type 0 where
+  pub instants_are : AreRunInstants model.equations period start stop instants
+  pub values_are : AreFirstValues model.names latest before
+  pub line : FitsLines model.names room
 
 -- the header and the rows up to the first tick that fails
 abbrev pub run_text : FlatModel → List Ratio → List ℕ

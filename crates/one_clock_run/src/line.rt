@@ -16,52 +16,18 @@ const INSTANT_LEN: usize = 41;
 /// The bytes of a cell at most, with its comma.
 const CELL_LEN: usize = 21;
 
-/// A line of the trace, in room that holds the header and any row.
-#[derive(Drop)]
-pub struct Line {
-    pub(crate) bytes: Vec<u8>,
-}
-
-impl Line {
-    /// Takes room for the header and for any row of these names.
-    pub fn reserve(alloc: Global, names: &[FlatName]) -> Result<Line, AllocError>
-        requires few { length names.now ≤ 65536 }
-        requires short { header_len names.now < 2 ^ 32 }
-        ensures { IfOk result (λ line. FitsLines names.now (vec_capacity line.bytes)) }
-    {
-        let mut header = 5usize;
-        for name in names {
-            header += name.text.len() + 1;
-        }
-        let row = INSTANT_LEN + CELL_LEN * names.len() + 1;
-        Ok(Line {
-            bytes: Vec::with_capacity(alloc, header.max(row))?,
-        })
+/// Takes room for a line of the trace, which holds the header and any row of these names.
+pub fn reserve_line(alloc: Global, names: &[FlatName]) -> Result<Vec<u8>, AllocError>
+    requires few { length names.now ≤ 65536 }
+    requires short { header_len names.now < 2 ^ 32 }
+    ensures { IfOk result (λ line. FitsLines names.now (vec_capacity line)) }
+{
+    let mut header = 5usize;
+    for name in names {
+        header += name.text.len() + 1;
     }
-
-    /// Writes the header in place of what the line has.
-    pub fn write_header(&mut self, names: &[FlatName])
-        requires { FitsLines names.now (vec_capacity self.old.bytes) }
-        ensures text { self.new.bytes.items ≡ header_text names.now }
-        ensures room { vec_capacity self.new.bytes ≡ vec_capacity self.old.bytes }
-    {
-        write_header(&mut self.bytes, names);
-    }
-
-    /// Writes the row of an instant in place of what the line has.
-    pub fn write_row(&mut self, at: Ratio, values: &[Value])
-        requires { 42 + 21 * length values.now ≤ vec_capacity self.old.bytes }
-        ensures text { self.new.bytes.items ≡ tick_text at values.now }
-        ensures room { vec_capacity self.new.bytes ≡ vec_capacity self.old.bytes }
-    {
-        write_row(&mut self.bytes, at, values);
-    }
-
-    pub fn bytes(&self) -> &[u8]
-        ensures { result.now ≡ self.now.bytes.items }
-    {
-        self.bytes.as_slice()
-    }
+    let row = INSTANT_LEN + CELL_LEN * names.len() + 1;
+    Ok(Vec::with_capacity(alloc, header.max(row))?)
 }
 
 /// Whether a name is a column: all but Clocks are.
@@ -125,7 +91,7 @@ fn add_instant(line: &mut Vec<u8>, at: Ratio)
 }
 
 /// Writes the header in place of what the line has.
-fn write_header(line: &mut Vec<u8>, names: &[FlatName])
+pub fn write_header(line: &mut Vec<u8>, names: &[FlatName])
     requires { FitsLines names.now (vec_capacity line.old) }
     ensures text { line.new.items ≡ header_text names.now }
     ensures room { vec_capacity line.new ≡ vec_capacity line.old }
@@ -143,7 +109,7 @@ fn write_header(line: &mut Vec<u8>, names: &[FlatName])
 }
 
 /// Writes the row of an instant in place of what the line has.
-fn write_row(line: &mut Vec<u8>, at: Ratio, values: &[Value])
+pub fn write_row(line: &mut Vec<u8>, at: Ratio, values: &[Value])
     requires { 42 + 21 * length values.now ≤ vec_capacity line.old }
     ensures text { line.new.items ≡ tick_text at values.now }
     ensures room { vec_capacity line.new ≡ vec_capacity line.old }

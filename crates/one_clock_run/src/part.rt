@@ -1,8 +1,8 @@
 ghost use Rattle.std.specs.Prelude.{◌≡◌, IfOk, OnErr, length};
 ghost use Rattle.one_clock.specs.OneClock.{AreOrdered};
-ghost use Rattle.one_clock_run.specs.Computed.{starts_of, equation_taken, stepped, stepped_from};
+ghost use Rattle.one_clock_run.specs.Computed.{equation_taken, stepped, stepped_from};
 ghost use Rattle.one_clock_run.specs.Steps.{StepsAs, CanBeTaken};
-ghost use Rattle.one_clock_run.specs.Values.{AreValuesOf};
+ghost use Rattle.one_clock_run.specs.Values.{AreFirstValues, AreValuesOf};
 
 use crate::reads::Reads;
 use flat_model::{Equation, Expr, FlatModel, FlatName, eval};
@@ -11,7 +11,7 @@ use std::alloc::{AllocError, Global};
 use sync_values::{Fail, Value};
 
 /// The equation that failed at a tick, by its number, and how.
-#[derive(Clone, Copy, Debug, PartialEq, Eq)]
+#[derive(Clone, Copy)]
 pub struct Failing {
     pub equation: usize,
     pub kind: Fail,
@@ -77,12 +77,11 @@ pub struct Part {
 impl Part {
     /// Takes the memory of a part over these names.
     pub fn prepare(alloc: Global, names: &[FlatName]) -> Result<Part, AllocError>
-        ensures now { IfOk result (λ part. part.latest.items ≡ starts_of names.now) }
-        ensures before { IfOk result (λ part. length part.before.items ≡ length names.now) }
+        ensures { IfOk result (λ part. AreFirstValues names.now part.latest.items part.before.items) }
     {
         let mut latest = Vec::with_capacity(alloc, names.len())?;
         for name in names {
-            latest.push(name.start)?;
+            latest.push_reserved(name.start);
         }
         let before = Vec::from_slice(alloc, latest.as_slice())?;
         Ok(Part { latest, before })

@@ -9,7 +9,7 @@ use rational_time::{Ratio, make, ticks_until};
 use std::alloc::{AllocError, Global};
 
 /// The clock of a model of one clock, in seconds.
-#[derive(Clone, Copy, Debug, PartialEq, Eq)]
+#[derive(Clone, Copy)]
 pub struct TickClock {
     pub period: Ratio,
     pub start: Ratio,
@@ -77,7 +77,7 @@ fn first_ticks(alloc: Global, clock: TickClock, count: u64) -> Result<Vec<Ratio>
 {
     let mut instants = Vec::with_capacity(alloc, count as usize)?;
     for k in 0..count {
-        instants.push(make(k * clock.period.num(), clock.period.den()))?;
+        instants.push_reserved(make(k * clock.period.num(), clock.period.den()));
     }
     Ok(instants)
 }

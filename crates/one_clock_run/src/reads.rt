@@ -36,7 +36,7 @@ impl<'a> Lookup for Reads<'a> {
     }
 
     fn left_now(&self, name: u32) -> Option<Value> {
-        self.now.get(name as usize).copied()
+        self.now(name)
     }
 
     fn left_last(&self, name: u32) -> Value {

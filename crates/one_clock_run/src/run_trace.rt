@@ -1,15 +1,18 @@
-ghost use Rattle.std.specs.Prelude.{◌≡◌, ◌+◌, ◌*◌, ◌^◌, ◌<◌, ◌≤◌, Err, IfOk, length, vec_capacity};
+ghost use Rattle.std.specs.Prelude.{◌≡◌, ◌+◌, ◌++◌, ◌*◌, ◌^◌, ◌<◌, ◌≤◌, Err, IfOk, length, vec_capacity};
 ghost use Rattle.outside_io.specs.Counts.{Rose};
-ghost use Rattle.one_clock.specs.OneClock.{AreOwnNames, IsOneClock};
+ghost use Rattle.flat_model.specs.Trace.{header_text};
+ghost use Rattle.one_clock.specs.OneClock.{AreOrdered, AreOwnNames, IsOneClock};
 ghost use Rattle.rational_time.specs.Fraction.{ArePartsBelow};
-ghost use Rattle.one_clock_run.specs.Computed.{AreRunInstants, HasTickCount, starts_of};
+ghost use Rattle.one_clock_run.specs.Computed.{HasTickCount, rows_from};
+ghost use Rattle.one_clock_run.specs.Ends.{RunsAs};
 ghost use Rattle.one_clock_run.specs.Lines.{FitsLines};
-ghost use Rattle.one_clock_run.specs.Traces.{TracesAs};
+ghost use Rattle.one_clock_run.specs.Traces.{IsMemory, TracesAs};
+ghost use Rattle.one_clock_run.specs.Values.{AreValuesOf};
 
-use crate::line::Line;
+use crate::line::{reserve_line, write_header};
 use crate::part::Part;
 use crate::plan::{TickClock, clock_of, run_instants, tick_count};
-use crate::runner::{RunEnd, run};
+use crate::runner::run;
 use flat_model::FlatModel;
 use one_clock::OneClock;
 use outside_io::{Sink, put_all};
@@ -21,7 +24,7 @@ use sync_values::Fail;
 const PLAN_LIMIT: u128 = 16_777_216;
 
 /// Why a run did not put its whole trace.
-#[derive(Clone, Copy, Debug, PartialEq, Eq)]
+#[derive(Clone, Copy)]
 pub enum RunStop {
     /// The rows of the inputs and the ticks are more than 16,777,216 together. Nothing was put.
     TooLong,
@@ -42,7 +45,7 @@ pub enum RunStop {
 struct Memory {
     instants: Vec<Ratio>,
     part: Part,
-    line: Line,
+    line: Vec<u8>,
 }
 
 /// Takes the memory of a run.
@@ -58,16 +61,13 @@ fn take_memory(
     requires period { ArePartsBelow (2 ^ 31) clock.period }
     requires few { ticks < 2 ^ 25 }
     requires ticks { HasTickCount model.now.equations clock.period clock.start stop ticks }
-    ensures instants { IfOk result (λ m. AreRunInstants model.now.equations clock.period clock.start stop m.instants.items) }
-    ensures starts { IfOk result (λ m. m.part.latest.items ≡ starts_of model.now.names) }
-    ensures before { IfOk result (λ m. length m.part.before.items ≡ length model.now.names) }
-    ensures line { IfOk result (λ m. FitsLines model.now.names (vec_capacity m.line.bytes)) }
+    ensures { IfOk result (λ m. IsMemory model.now clock.period clock.start stop m.instants.items m.part.latest.items m.part.before.items (vec_capacity m.line)) }
 {
     let names = model.names.as_slice();
     Ok(Memory {
         instants: run_instants(alloc, model.equations.as_slice(), clock, stop, ticks)?,
         part: Part::prepare(alloc, names)?,
-        line: Line::reserve(alloc, names)?,
+        line: reserve_line(alloc, names)?,
     })
 }
 
@@ -98,27 +98,33 @@ pub fn trace<O: Sink>(
     if ticks >= PLAN_LIMIT {
         return Err(RunStop::TooLong);
     }
-    let Ok(mut memory) = take_memory(alloc, flat, clock, stop, ticks as u64) else {
-        return Err(RunStop::NoMemory);
-    };
-    memory.line.write_header(flat.names.as_slice());
-    match put_all(out, memory.line.bytes()) {
+    match take_memory(alloc, flat, clock, stop, ticks as u64) {
+        Ok(mut memory) => put_trace(flat, &mut memory, out),
+        Err(_) => Err(RunStop::NoMemory),
+    }
+}
+
+/// Puts the header, and then the rows of a run, in memory that is taken.
+fn put_trace<O: Sink>(model: &FlatModel, memory: &mut Memory, out: &mut O) -> Result<(), RunStop>
+    requires ordered { AreOrdered model.now.names model.now.equations }
+    requires typed { AreValuesOf model.now.names memory.old.part.latest.items }
+    requires kept { length memory.old.part.before.items ≡ length memory.old.part.latest.items }
+    requires line { FitsLines model.now.names (vec_capacity memory.old.line) }
+    ensures ends { RunsAs result (header_text model.now.names ++ rows_from model.now.equations memory.old.part.latest.items memory.old.instants.items)
+        model.now.equations memory.old.part.latest.items memory.old.instants.items (O.text out.old) (O.text out.new) }
+    ensures failed { result ≡ Err RunStop.OutFailed → Rose (O.faults out.old) (O.faults out.new) }
+    ensures counts { O.faults out.old ≤ O.faults out.new }
+{
+    write_header(&mut memory.line, model.names.as_slice());
+    match put_all(out, memory.line.as_slice()) {
         Ok(()) => {}
         Err(_) => return Err(RunStop::OutFailed),
     }
-    match run(
-        flat,
+    run(
+        model,
         memory.instants.as_slice(),
         &mut memory.part,
         &mut memory.line,
         out,
-    ) {
-        Ok(()) => Ok(()),
-        Err(RunEnd::Faulted { at, failing }) => Err(RunStop::Faulted {
-            kind: failing.kind,
-            at,
-            equation: failing.equation,
-        }),
-        Err(RunEnd::WriteFailed) => Err(RunStop::OutFailed),
-    }
+    )
 }

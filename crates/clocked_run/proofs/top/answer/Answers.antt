@@ -1,40 +1,38 @@
-use Rattle.std.proofs.Common.{map, string_bytes, subst}
+use Rattle.std.proofs.Common.{map, string_bytes, refl, ap, subst, length, arith}
 use Rattle.outside_io.specs.Counts.{Rose}
 use Rattle.outside_io.specs.Files.{told}
-use Rattle.clocked_run.specs.Readings.{IsUnbuilt, StandsFor}
-use Rattle.clocked_run.proofs.Right.{unread_right, unbuilt_right, done_traced, stop_traced}
+use Rattle.clocked_run.specs.Ends.{written}
+use Rattle.clocked_run.specs.Readings.{Answered, AnswersText}
+use Rattle.clocked_run.proofs.Right.{usage_answered, unread_answered, text_answered}
 use Rattle.clocked_run.proofs.top.answer.Goals as goal
 
-pub returns-in-Err-read_model-clause-answers : goal.returns-in-Err-read_model-clause-answers
-returns-in-Err-read_model-clause-answers g c =
-    unread_right (map string_bytes c.args.words.now) (told (g.S.Shelf.held c.args.shelf.now) (g.S.Shelf.gives_empty c.args.shelf.now))
-    (λ name. Rose (g.S.Shelf.faults c.args.shelf.now name) (g.S.Shelf.faults c.read_model.new.shelf name))
-    c.in-Ok.command.model.now c.in-Ok.command.stop c.in-Ok.ensures.command c.in-Err-read_model.stop (g.O.Sink.text c.args.out.now) c.in-Err-read_model.ensures.unread
+pub returns-in-Err-clause-answered : goal.returns-in-Err-clause-answered
+returns-in-Err-clause-answered g c = usage_answered (map string_bytes c.args.words.now) _ _ c.in-Err.fault _ _ c.in-Err.ensures.usage
 
-pub returns-in-Err-read_one_clock-clause-answers : goal.returns-in-Err-read_one_clock-clause-answers
-returns-in-Err-read_one_clock-clause-answers g c =
-    unbuilt_right (map string_bytes c.args.words.now) (told (g.S.Shelf.held c.args.shelf.now) (g.S.Shelf.gives_empty c.args.shelf.now))
-    (λ name. Rose (g.S.Shelf.faults c.args.shelf.now name) (g.S.Shelf.faults c.read_model.new.shelf name))
-    c.in-Ok.command.model.now c.in-Ok.command.stop c.in-Ok.ensures.command c.in-Ok-read_model.bytes.items c.in-Ok-read_model.ensures.whole c.in-Ok-read_model.ensures.within
-    c.in-Err-read_one_clock.stop (g.O.Sink.text c.args.out.now) (subst (λ b. IsUnbuilt b c.in-Err-read_one_clock.stop) c.as_slice.ensures.value c.in-Err-read_one_clock.ensures.unbuilt)
+pub returns-in-Err-clause-shelf : goal.returns-in-Err-clause-shelf
+returns-in-Err-clause-shelf g c = record { holds = refl; flag = refl; counts = λ name. omega arith }
 
-pub returns-in-Ok-trace-clause-answers : goal.returns-in-Ok-trace-clause-answers
-returns-in-Ok-trace-clause-answers g c =
-    done_traced (map string_bytes c.args.words.now) (told (g.S.Shelf.held c.args.shelf.now) (g.S.Shelf.gives_empty c.args.shelf.now))
+pub returns-in-Err-read_model-clause-answered : goal.returns-in-Err-read_model-clause-answered
+returns-in-Err-read_model-clause-answered g c =
+    unread_answered (map string_bytes c.args.words.now) (told (g.S.Shelf.held c.args.shelf.now) (g.S.Shelf.gives_empty c.args.shelf.now))
     (λ name. Rose (g.S.Shelf.faults c.args.shelf.now name) (g.S.Shelf.faults c.read_model.new.shelf name))
-    c.in-Ok.command.model.now c.in-Ok.command.stop c.in-Ok.ensures.command c.in-Ok-read_model.bytes.items c.in-Ok-read_model.ensures.whole c.in-Ok-read_model.ensures.within
-    c.in-Ok-read_one_clock.model
-    (subst (λ b. StandsFor b c.in-Ok-read_one_clock.model.model c.in-Ok-read_one_clock.model.counter c.in-Ok-read_one_clock.model.resolution) c.as_slice.ensures.value c.in-Ok-read_one_clock.ensures.stands)
-    (g.O.Sink.text c.args.out.now) (g.O.Sink.text c.trace.new.out) c.in-Ok-trace.ensures.traces
+    c.in-Ok.command.model.now c.in-Ok.command.stop c.in-Ok.ensures.command c.in-Err-read_model.stop (g.O.Sink.text c.args.out.now) (g.O.Sink.faults c.args.out.now) c.in-Err-read_model.ensures.unread
 
-pub returns-clause-answers : goal.returns-clause-answers
-returns-clause-answers g c = rw c.stop_of.ensures (
-    stop_traced (map string_bytes c.args.words.now) (told (g.S.Shelf.held c.args.shelf.now) (g.S.Shelf.gives_empty c.args.shelf.now))
+pub returns-in-Err-read_model-clause-shelf : goal.returns-in-Err-read_model-clause-shelf
+returns-in-Err-read_model-clause-shelf g c = c.read_model.ensures.shelf
+
+pub run_text-requires : goal.run_text-requires
+run_text-requires g c =
+    let stop = c.in-Ok.ensures.command.stop_is in
+    record { few = omega (arith, ap (λ b. length b) c.as_slice.ensures.value, c.in-Ok-read_model.ensures.read.few); early = stop.early; grain = stop.den_fits }
+
+pub returns-in-Ok-read_model-clause-answered : goal.returns-in-Ok-read_model-clause-answered
+returns-in-Ok-read_model-clause-answered g c =
+    let out = written (g.O.Sink.text c.args.out.now) (g.O.Sink.text c.run_text.new.out) (g.O.Sink.faults c.args.out.now) (g.O.Sink.faults c.run_text.new.out) in
+    text_answered (map string_bytes c.args.words.now) (told (g.S.Shelf.held c.args.shelf.now) (g.S.Shelf.gives_empty c.args.shelf.now))
     (λ name. Rose (g.S.Shelf.faults c.args.shelf.now name) (g.S.Shelf.faults c.read_model.new.shelf name))
-    c.in-Ok.command.model.now c.in-Ok.command.stop c.in-Ok.ensures.command c.in-Ok-read_model.bytes.items c.in-Ok-read_model.ensures.whole c.in-Ok-read_model.ensures.within
-    c.in-Ok-read_one_clock.model
-    (subst (λ b. StandsFor b c.in-Ok-read_one_clock.model.model c.in-Ok-read_one_clock.model.counter c.in-Ok-read_one_clock.model.resolution) c.as_slice.ensures.value c.in-Ok-read_one_clock.ensures.stands)
-    c.in-Err-trace.end (g.O.Sink.text c.args.out.now) (g.O.Sink.text c.trace.new.out) c.in-Err-trace.ensures.traces)
+    c.in-Ok.command.model.now c.in-Ok.command.stop c.in-Ok.ensures.command c.in-Ok-read_model.bytes.items c.in-Ok-read_model.ensures.read.whole c.run_text.result out
+    (subst (λ b. Answered (AnswersText b c.in-Ok.command.stop) out c.run_text.result) c.as_slice.ensures.value c.run_text.ensures)
 
-pub trace-requires-clause-model : goal.trace-requires-clause-model
-trace-requires-clause-model g c = c.in-Ok-read_one_clock.ensures.stands.2.one_clock
+pub returns-in-Ok-read_model-clause-shelf : goal.returns-in-Ok-read_model-clause-shelf
+returns-in-Ok-read_model-clause-shelf g c = c.read_model.ensures.shelf

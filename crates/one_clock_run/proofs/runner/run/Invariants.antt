@@ -12,6 +12,6 @@ invariant-loop-at g l = record {
   typed : AreValuesOf l.model.names l.part.latest.items;
   now_len : length l.part.latest.items ≡ length l.fn.part.latest.items;
   before_len : length l.part.before.items ≡ length l.fn.part.latest.items;
-  room : vec_capacity l.line.bytes ≡ vec_capacity l.fn.line.bytes;
+  room : vec_capacity l.line ≡ vec_capacity l.fn.line;
   counts : g.O.Sink.faults l.fn.out ≤ g.O.Sink.faults l.out;
 }
