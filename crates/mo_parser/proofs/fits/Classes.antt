@@ -26,17 +26,27 @@ unfolding rule.within read.within
 fits_within = fits_then (fits_word w.KwWithin) (λ _. fits_then (fits_choose is_ident (0 ∷ []) tells_ident (fits_then fits_name (λ _. fits_gives tt) refl) (fits_gives tt) refl refl (omega arith))
     (λ _. fits_then (fits_symbol s.Semicolon) (λ _. fits_gives tt) refl) refl) refl
 
-module _ (text : List ℕ) {n : ℕ} where
-  fits_section : (b : Body) → Fits section_starts (element_starts ++ equation_starts) 1 None (λ k. rule.section text k b) (λ k. read.section text k b) n
+module _ {n : ℕ} where
+  fits_section : (b : Body) → Fits section_starts (element_starts ++ equation_starts) 1 None (λ k. rule.section k b) (λ k. read.section k b) n
   unfolding rule.section read.section
   fits_section b = fits_as section_starts (element_starts ++ equation_starts) refl refl (fits_choose (λ t. is_some (visibility_of t)) visibilities tells_visibility
       (fits_then fits_visibility (λ _. fits_then (fits_elements b.elements) (λ es. fits_gives _) refl) refl)
       (fits_then (fits_word w.KwEquation) (λ _. fits_then (fits_equations b.equations) (λ es. fits_gives _) refl) refl) refl refl (omega arith))
 
-  fits_last_note : Fits (kw w.KwAnnotation ∷ []) [] 1 None (λ k. rule.last_note text k) (λ k. read.last_note text k) n
+  fits_last_note : Fits (kw w.KwAnnotation ∷ []) [] 1 None (λ k. rule.last_note k) (λ k. read.last_note k) n
   unfolding rule.last_note read.last_note
   fits_last_note = fits_then (fits_note (fits_balanced n)) (λ _. fits_then (fits_symbol s.Semicolon) (λ _. fits_gives tt) refl) refl
 
+  fits_short_args : Fits (sy s.RoundOpen ∷ []) (sy s.RoundOpen ∷ []) 0 None (λ k. rule.short_args k) (λ k. read.short_args k) n
+  unfolding rule.short_args read.short_args
+  fits_short_args = fits_choose (is_symbol s.RoundOpen) (sy s.RoundOpen ∷ []) (tells_symbol s.RoundOpen) (fits_then (fits_symbol s.RoundOpen) (λ _. fits_in_brackets (fits_args n)) refl) (fits_gives []) refl refl (omega arith)
+
+  fits_short : Fits (sy s.Equals ∷ []) (sy s.Dot ∷ sy s.RoundOpen ∷ 3 ∷ sy s.Plus ∷ kw w.KwAnnotation ∷ []) 1 None (λ k. rule.short k) (λ k. read.short k) n
+  unfolding rule.short read.short
+  fits_short = fits_as (sy s.Equals ∷ []) (sy s.Dot ∷ sy s.RoundOpen ∷ 3 ∷ sy s.Plus ∷ kw w.KwAnnotation ∷ []) refl refl
+      (fits_then (fits_symbol s.Equals) (λ _. fits_then fits_some_causality (λ c. fits_then fits_name (λ x. fits_then fits_short_args (λ us. fits_then (fits_comment (fits_balanced n)) (λ _. fits_gives _) refl) refl) refl) refl) refl)
+
+module _ (text : List ℕ) {n : ℕ} where
   fits_ending : (x : Token) → Fits (kw w.KwAnnotation ∷ kw w.KwEnd ∷ []) [] 1 None (λ k. rule.ending text k x) (λ k. read.ending text k x) n
   unfolding rule.ending read.ending
   fits_ending x = fits_then (fits_choose (is_word w.KwAnnotation) (kw w.KwAnnotation ∷ []) (tells_word w.KwAnnotation) (fits_then fits_last_note (λ _. fits_gives tt) refl) (fits_gives tt) refl refl (omega arith))
@@ -52,15 +62,6 @@ module _ (text : List ℕ) {n : ℕ} where
   unfolding rule.plain read.plain
   fits_plain_class x = fits_as (3 ∷ element_starts ++ kw w.KwAnnotation ∷ kw w.KwEnd ∷ []) [] refl refl
       (fits_then fits_some_texts (λ _. fits_then (fits_elements []) (λ es. fits_then (fits_ending x) (λ _. fits_gives _) refl) refl) refl)
-
-  fits_short_args : Fits (sy s.RoundOpen ∷ []) (sy s.RoundOpen ∷ []) 0 None (λ k. rule.short_args text k) (λ k. read.short_args text k) n
-  unfolding rule.short_args read.short_args
-  fits_short_args = fits_choose (is_symbol s.RoundOpen) (sy s.RoundOpen ∷ []) (tells_symbol s.RoundOpen) (fits_then (fits_symbol s.RoundOpen) (λ _. fits_in_brackets (fits_args n)) refl) (fits_gives []) refl refl (omega arith)
-
-  fits_short : Fits (sy s.Equals ∷ []) (sy s.Dot ∷ sy s.RoundOpen ∷ 3 ∷ sy s.Plus ∷ kw w.KwAnnotation ∷ []) 1 None (λ k. rule.short text k) (λ k. read.short text k) n
-  unfolding rule.short read.short
-  fits_short = fits_as (sy s.Equals ∷ []) (sy s.Dot ∷ sy s.RoundOpen ∷ 3 ∷ sy s.Plus ∷ kw w.KwAnnotation ∷ []) refl refl
-      (fits_then (fits_symbol s.Equals) (λ _. fits_then fits_some_causality (λ c. fits_then fits_name (λ x. fits_then fits_short_args (λ us. fits_then (fits_comment (fits_balanced n)) (λ _. fits_gives _) refl) refl) refl) refl) refl)
 
   fits_long_class : Fits long_starts [] 1 None (λ k. rule.long_class text k) (λ k. read.long_class text k) n
   unfolding rule.long_class read.long_class

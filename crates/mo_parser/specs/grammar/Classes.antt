@@ -36,8 +36,8 @@ within = do
 unfoldable pub same_ident : List ℕ → Token → Rule Token
 same_ident text x = one (λ t. when (is_ident t && same_name text x t) t)
 
--- over the bytes of the text, inside fewer levels of brackets and if-expressions than one more than the number
-module _ (text : List ℕ) (n : ℕ) where
+-- inside fewer levels of brackets and if-expressions than one more than the number
+module _ (n : ℕ) where
   -- ("public"|"protected") { element ";" } | "equation" { equation ";" }
   unfoldable pub section : Body → Rule Body
   section b = either (do
@@ -54,31 +54,6 @@ module _ (text : List ℕ) (n : ℕ) where
     symbol s.Semicolon
     gives tt
 
-  -- [ note ";" ] "end" Ident, the class's own
-  unfoldable pub ending : Token → Rule (Unit {0})
-  ending x = do
-    dropped last_note
-    word w.KwEnd
-    same_ident text x
-    gives tt
-
-  -- [ texts ] { element ";" } { section } [ note ";" ] "end" Ident
-  unfoldable pub long : Token → Rule Body
-  long x = do
-    dropped texts
-    es ← elements n []
-    b ← many section (record { elements = es; equations = [] })
-    ending x
-    gives b
-
-  -- [ texts ] { element ";" } [ note ";" ] "end" Ident
-  unfoldable pub plain : Token → Rule Body
-  plain x = do
-    dropped texts
-    es ← elements n []
-    ending x
-    gives (record { elements = es; equations = [] })
-
   -- [ "(" [ args ] ")" ]
   unfoldable pub short_args : Rule (List Arg)
   short_args = either (symbol s.RoundOpen >> in_brackets (Args n)) (gives [])
@@ -92,6 +67,33 @@ module _ (text : List ℕ) (n : ℕ) where
     args ← short_args
     comment (Balanced n)
     gives (record { causality = c; base = base.path; args = args })
+
+-- the same over the bytes of the text
+module _ (text : List ℕ) (n : ℕ) where
+  -- [ note ";" ] "end" Ident, the class's own
+  unfoldable pub ending : Token → Rule (Unit {0})
+  ending x = do
+    dropped (last_note n)
+    word w.KwEnd
+    same_ident text x
+    gives tt
+
+  -- [ texts ] { element ";" } { section } [ note ";" ] "end" Ident
+  unfoldable pub long : Token → Rule Body
+  long x = do
+    dropped texts
+    es ← elements n []
+    b ← many (section n) (record { elements = es; equations = [] })
+    ending x
+    gives b
+
+  -- [ texts ] { element ";" } [ note ";" ] "end" Ident
+  unfoldable pub plain : Token → Rule Body
+  plain x = do
+    dropped texts
+    es ← elements n []
+    ending x
+    gives (record { elements = es; equations = [] })
 
   -- ("model"|"block"|"class") Ident long
   unfoldable pub long_class : Rule ClassDef
@@ -107,7 +109,7 @@ module _ (text : List ℕ) (n : ℕ) where
     word w.KwConnector
     x ← ident
     either (do
-      sh ← short
+      sh ← short n
       gives (shortened x sh)) (do
         b ← plain x
         gives (bodied kind.Connector x b))

@@ -28,7 +28,7 @@ within = do
 unfoldable pub same_ident : List ℕ → Token → Parser Token
 same_ident text x = one (λ t. when (is_ident t && same_name text x t) t)
 
-module _ (text : List ℕ) (n : ℕ) where
+module _ (n : ℕ) where
   unfoldable pub section : Body → Parser Body
   section b = choose (λ t. is_some (visibility_of t)) (do
     one visibility_of
@@ -44,28 +44,6 @@ module _ (text : List ℕ) (n : ℕ) where
     symbol s.Semicolon
     gives tt
 
-  unfoldable pub ending : Token → Parser (Unit {0})
-  ending x = do
-    dropped (is_word w.KwAnnotation) last_note
-    word w.KwEnd
-    same_ident text x
-    gives tt
-
-  unfoldable pub long : Token → Parser Body
-  long x = do
-    dropped is_text texts
-    es ← elements n []
-    b ← many begins_section section (record { elements = es; equations = [] })
-    ending x
-    gives b
-
-  unfoldable pub plain : Token → Parser Body
-  plain x = do
-    dropped is_text texts
-    es ← elements n []
-    ending x
-    gives (record { elements = es; equations = [] })
-
   unfoldable pub short_args : Parser (List Arg)
   short_args = choose (is_symbol s.RoundOpen) (symbol s.RoundOpen >> in_brackets (args n)) (gives [])
 
@@ -77,6 +55,29 @@ module _ (text : List ℕ) (n : ℕ) where
     as_args ← short_args
     comment (balanced n)
     gives (record { causality = c; base = base.path; args = as_args })
+
+module _ (text : List ℕ) (n : ℕ) where
+  unfoldable pub ending : Token → Parser (Unit {0})
+  ending x = do
+    dropped (is_word w.KwAnnotation) (last_note n)
+    word w.KwEnd
+    same_ident text x
+    gives tt
+
+  unfoldable pub long : Token → Parser Body
+  long x = do
+    dropped is_text texts
+    es ← elements n []
+    b ← many begins_section (section n) (record { elements = es; equations = [] })
+    ending x
+    gives b
+
+  unfoldable pub plain : Token → Parser Body
+  plain x = do
+    dropped is_text texts
+    es ← elements n []
+    ending x
+    gives (record { elements = es; equations = [] })
 
   unfoldable pub long_class : Parser ClassDef
   long_class = do
@@ -90,7 +91,7 @@ module _ (text : List ℕ) (n : ℕ) where
     word w.KwConnector
     x ← ident
     choose (is_symbol s.Equals) (do
-      sh ← short
+      sh ← short n
       gives (shortened x sh)) (do
         b ← plain x
         gives (bodied kind.Connector x b))

@@ -76,8 +76,8 @@ fn visibility(tokens: &mut Tokens<'_>) -> Result<(), Halt>
 
 impl Reader {
     #[tactic(auto, unfolding(crate::specs::reading::Classes::section))]
-    fn section(&self, text: &[u8], tokens: &mut Tokens<'_>, body: Body) -> Result<Body, Halt>
-        ensures { Reads (spec.section text.now self.now.depth body tokens.old) result tokens.new }
+    fn section(&self, tokens: &mut Tokens<'_>, body: Body) -> Result<Body, Halt>
+        ensures { Reads (spec.section self.now.depth body tokens.old) result tokens.new }
     {
         let Body {
             elements,
@@ -100,21 +100,21 @@ impl Reader {
     }
 
     #[tactic(auto, unfolding(crate::specs::reading::Outcomes::turns))]
-    fn sections(&self, text: &[u8], tokens: &mut Tokens<'_>, mut body: Body) -> Result<Body, Halt>
-        ensures { Reads (many kinds.begins_section (spec.section text.now self.now.depth) body tokens.old) result tokens.new }
+    fn sections(&self, tokens: &mut Tokens<'_>, mut body: Body) -> Result<Body, Halt>
+        ensures { Reads (many kinds.begins_section (spec.section self.now.depth) body tokens.old) result tokens.new }
     {
         for _turn in 0..tokens.count() {
             if !begins_section(tokens.peek()) {
                 break;
             }
-            body = self.section(text, tokens, body)?;
+            body = self.section(tokens, body)?;
         }
         Ok(body)
     }
 
     #[tactic(auto, unfolding(crate::specs::reading::Classes::last_note))]
-    fn last_note(&self, text: &[u8], tokens: &mut Tokens<'_>) -> Result<(), Halt>
-        ensures { Reads (spec.last_note text.now self.now.depth tokens.old) result tokens.new }
+    fn last_note(&self, tokens: &mut Tokens<'_>) -> Result<(), Halt>
+        ensures { Reads (spec.last_note self.now.depth tokens.old) result tokens.new }
     {
         note(tokens, self.depth)?;
         symbol(tokens, Sym::Semicolon)?;
@@ -126,7 +126,7 @@ impl Reader {
         ensures { Reads (spec.ending text.now self.now.depth own tokens.old) result tokens.new }
     {
         if is_word(tokens.peek(), Word::KwAnnotation) {
-            self.last_note(text, tokens)?;
+            self.last_note(tokens)?;
         }
         word(tokens, Word::KwEnd)?;
         same_ident(text, tokens, own)?;
@@ -143,7 +143,7 @@ impl Reader {
             elements,
             equations: List::new(self.alloc),
         };
-        let body = self.sections(text, tokens, body)?;
+        let body = self.sections(tokens, body)?;
         self.ending(text, tokens, own).and(Ok(body))
     }
 
@@ -161,8 +161,8 @@ impl Reader {
     }
 
     #[tactic(auto, unfolding(crate::specs::reading::Classes::short_args))]
-    fn short_args(&self, text: &[u8], tokens: &mut Tokens<'_>) -> Result<List<Arg>, Halt>
-        ensures { Reads (spec.short_args text.now self.now.depth tokens.old) result tokens.new }
+    fn short_args(&self, tokens: &mut Tokens<'_>) -> Result<List<Arg>, Halt>
+        ensures { Reads (spec.short_args self.now.depth tokens.old) result tokens.new }
     {
         if !is_symbol(tokens.peek(), Sym::RoundOpen) {
             return Ok(List::new(self.alloc));
@@ -172,13 +172,13 @@ impl Reader {
     }
 
     #[tactic(auto, unfolding(crate::specs::reading::Classes::short))]
-    fn short(&self, text: &[u8], tokens: &mut Tokens<'_>) -> Result<Short, Halt>
-        ensures { Reads (spec.short text.now self.now.depth tokens.old) result tokens.new }
+    fn short(&self, tokens: &mut Tokens<'_>) -> Result<Short, Halt>
+        ensures { Reads (spec.short self.now.depth tokens.old) result tokens.new }
     {
         symbol(tokens, Sym::Equals)?;
         let causality = some_causality(tokens)?;
         let Named { path, span: _ } = name(self.alloc, tokens)?;
-        let args = self.short_args(text, tokens)?;
+        let args = self.short_args(tokens)?;
         comment(tokens, self.depth).and(Ok(Short {
             causality,
             base: path,
@@ -212,7 +212,7 @@ impl Reader {
         word(tokens, Word::KwConnector)?;
         let own = ident(tokens)?;
         if is_symbol(tokens.peek(), Sym::Equals) {
-            let short = self.short(text, tokens)?;
+            let short = self.short(tokens)?;
             return Ok(ClassDef {
                 kind: ClassKind::Connector,
                 name: span_of(own),
