@@ -1,5 +1,6 @@
 -- Assignments of values to names and moments, ticks, and last values.
-use Rattle.std.specs.Prelude.{ℕ, zero, suc, Bool, Option, Some, None, if◌then◌else◌}
+use Rattle.std.specs.Prelude.{◌≡◌, ℕ, zero, suc, Bool, Option, Some, None, Ok, if◌then◌else◌}
+use Rattle.sync_values.specs.Arithmetic.{fitted}
 use Rattle.sync_values.specs.declared.value.Value.{Value}
 use Rattle.sync_values.specs.declared.value.Value.TheVariants as value
 use Rattle.flat_model.specs.declared.model.NameKind.{NameKind}
@@ -9,9 +10,9 @@ use Rattle.flat_model.specs.declared.model.NameKind.TheVariants as kind
 abbrev pub Assignment : Type 0
 Assignment = ℕ → ℕ → Option Value
 
--- a value of the name's type; a Clock has none
+-- a value of the name's type: an Integer of 64 bits, or a Boolean; a Clock has none
 abbrev pub IsOfKind : NameKind → Value → Type 0
-IsOfKind kind.Integer (value.Int z) = Unit {0}
+IsOfKind kind.Integer (value.Int z) = fitted z ≡ Ok z
 IsOfKind kind.Boolean (value.Bool b) = Unit {0}
 IsOfKind _ _ = ⊥
 

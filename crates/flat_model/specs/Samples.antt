@@ -47,3 +47,7 @@ samples_are_plain e = may_stand e Now
 -- whether several expressions may stand there
 abbrev pub all_may_stand : Vantage → List Expr → Bool
 all_may_stand vantage parts = list_all (λ part. may_stand part vantage) parts
+
+-- the same of several expressions of an equation
+abbrev pub all_samples_are_plain : List Expr → Bool
+all_samples_are_plain parts = all_may_stand Now parts

@@ -1,6 +1,7 @@
 -- The types of expressions, and the expressions that are made of values at one tick.
-use Rattle.std.specs.Prelude.{ℕ, ◌+◌, ◌==◌, nat_le, Bool, true, false, ◌&&◌, List, [], ◌∷◌, length, Option, Some, None, slice_get, option_map, if◌then◌else◌}
+use Rattle.std.specs.Prelude.{ℕ, ◌+◌, ◌==◌, nat_le, Bool, true, false, ◌&&◌, List, [], ◌∷◌, length, Option, Some, None, slice_get, option_map, is_ok, if◌then◌else◌}
 use Rattle.std.specs.List.{list_all}
+use Rattle.sync_values.specs.Arithmetic.{fitted}
 use Rattle.sync_values.specs.declared.value.Value.{Value}
 use Rattle.sync_values.specs.declared.value.Value.TheVariants as value
 use Rattle.sync_values.specs.declared.value.ChainOp.{ChainOp}
@@ -31,6 +32,11 @@ valued_type _ = None
 abbrev pub type_of_value : Value → NameKind
 type_of_value (value.Int z) = kind.Integer
 type_of_value (value.Bool b) = kind.Boolean
+
+-- an Integer of 64 bits, or a Boolean
+abbrev pub is_value : Value → Bool
+is_value (value.Int z) = is_ok (fitted z)
+is_value (value.Bool b) = true
 
 -- an expression is of this type
 abbrev pub is_type : NameKind → Option NameKind → Bool
@@ -91,7 +97,7 @@ call_type function parts = typed_if (length parts == arity function && list_all 
 
 -- one level of an expression whose parts have types
 abbrev pub type_of_level : Types → Expr-F (Unit {0}) (Option NameKind) → Option NameKind
-type_of_level types (Expr-F.Const v) = Some (type_of_value v)
+type_of_level types (Expr-F.Const v) = typed_if (is_value v) (type_of_value v)
 type_of_level types (Expr-F.Read x) = valued_type (types x)
 type_of_level types (Expr-F.Chain parts ops) = chain_type parts ops
 type_of_level types (Expr-F.Relation rel left right) = relation_type left right

@@ -5,7 +5,7 @@ ghost use Rattle.flat_model.specs.Operators.{Absent, chain, chosen, settled};
 ghost use Rattle.flat_model.specs.Functions.{called};
 ghost use Rattle.flat_model.specs.Meaning.{value_of, answers, whole_of};
 ghost use Rattle.flat_model.specs.Evaluation.{answer_of, seen_from, has_enough};
-ghost use Rattle.flat_model.specs.Samples.{may_stand, all_may_stand, samples_are_plain};
+ghost use Rattle.flat_model.specs.Samples.{may_stand, all_may_stand, samples_are_plain, all_samples_are_plain};
 ghost use Rattle.flat_model.specs.Intervals.{IsMeasurable, length_of};
 
 use crate::clock::Elapsed;
@@ -218,4 +218,22 @@ pub fn eval<V: Lookup>(expr: &Expr, values: &V) -> Result<Value, Fail>
     ensures { answer_of result ≡ value_of expr.now (V.views values.now) }
 {
     value_seen(expr, values, Vantage::Now)
+}
+
+/// The value of a chain of these parts at a moment, as [`eval`] gives it.
+///
+/// # Errors
+///
+/// The leftmost failure of a part that is evaluated.
+pub fn eval_chain<V: Lookup>(
+    parts: &[Expr],
+    ops: &[ChainOp],
+    values: &V,
+) -> Result<Value, Fail>
+    requires present { chain ops.now (answers parts.now (V.views values.now)) ≢ Absent }
+    requires samples { all_samples_are_plain parts.now ≡ true }
+    requires interval { IsMeasurable (V.elapsed values.now) }
+    ensures { answer_of result ≡ chain ops.now (answers parts.now (V.views values.now)) }
+{
+    chain_value(parts, ops, values, Vantage::Now)
 }

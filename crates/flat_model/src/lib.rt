@@ -18,7 +18,7 @@ mod table;
 
 pub use clock::{Clock, ClockExpr, Clocking, Conversion, Elapsed, Moment};
 pub use equation::Equation;
-pub use evaluate::eval;
+pub use evaluate::{eval, eval_chain};
 pub use expression::{Expr, Fun};
 pub use fault::{Fault, FaultPlace};
 pub use law::tick_law;
