@@ -14,8 +14,8 @@ use Rattle.flat_model.specs.Moments.{moment_at}
 use Rattle.flat_model.specs.Assignment.{Assignment, tick_before, value_at_tick, last_value, previous_value}
 use Rattle.flat_model.specs.Setting.{Setting, class_of_name, clock_of, start_of, unclocked_view, site_answer, is_true, is_false, rises, risings_before, clock_ticks, class_ticks, name_ticks, time_between, interval_at, view_at, views_at, class_of_equation}
 use Rattle.flat_model.specs.Meets.{MeetsAt, HasValueAtTicks, HasOneValue}
-use Rattle.flat_model.specs.Occurrences.{bare_count, held_count, converted_count}
-use Rattle.flat_model.proofs.Dependence.{AgreeOn, sample_count, value_rests}
+use Rattle.flat_model.specs.Occurrences.{bare_count, held_count, converted_count, sample_count}
+use Rattle.flat_model.proofs.Dependence.{AgreeOn, value_rests}
 
 -- two assignments have the same values before m, and up to m
 abbrev pub SameBefore : Assignment → Assignment → ℕ → Type 0

@@ -8,20 +8,12 @@ use Rattle.flat_model.specs.declared.expression.Expr.{Expr}
 use Rattle.flat_model.specs.declared.clock.ClockExpr.{ClockExpr}
 use Rattle.flat_model.specs.declared.clock.ClockExpr.TheOpen.{Expr-F}
 use Rattle.flat_model.specs.declared.clock.ClockExpr.TheViews.{roll-Expr}
-use Rattle.flat_model.specs.declared.clock.ClockExpr.TheFolds.{fold-Expr, ind-Expr, fold-roll-Expr, map-Expr}
-use Rattle.flat_model.specs.Occurrences.{one_if, sum_of_parts, bare_in_level, held_in_level, converted_in_level, bare_count, held_count, converted_count}
+use Rattle.flat_model.specs.declared.clock.ClockExpr.TheFolds.{ind-Expr, fold-roll-Expr, map-Expr}
+use Rattle.flat_model.specs.Occurrences.{one_if, bare_in_level, held_in_level, converted_in_level, samples_in_level, bare_count, held_count, converted_count, sample_count}
 use Rattle.flat_model.specs.Operators.{Is, chain, negated, inverted, relation, chosen, read, settled}
 use Rattle.flat_model.specs.Functions.{called}
 use Rattle.flat_model.specs.Views.{Views, before}
 use Rattle.flat_model.specs.Meaning.{Meaning, meaning_of_level, seen_by, whole_of, value_of}
-
--- how often a `sample` stands in an expression, not counting those inside another
-abbrev pub samples_in_level : Expr-F (Unit {0}) ℕ → ℕ
-samples_in_level (Expr-F.Sample part clock) = 1
-samples_in_level level = sum_of_parts level
-
-unfoldable pub sample_count : Expr → ℕ
-sample_count = fold-Expr (Unit {0}) ℕ (λ _. tt) samples_in_level
 
 -- two views agree where they are read: on the names that are counted, and on all that is of earlier moments
 pub record Agree (bares holds conversions : ℕ → ℕ) (samples : ℕ) (v w : Views) : Type 0 where

@@ -9,10 +9,10 @@ use Rattle.flat_model.specs.declared.model.NameKind.TheVariants as kind
 use Rattle.flat_model.specs.Assignment.{Assignment}
 use Rattle.flat_model.specs.Setting.{Setting, class_of_name, unclocked_view, class_ticks, name_ticks}
 use Rattle.flat_model.specs.Meets.{MeetsAt, Meets, HasValueAtTicks}
-use Rattle.flat_model.specs.Occurrences.{bare_count}
+use Rattle.flat_model.specs.Occurrences.{bare_count, sample_count}
 use Rattle.flat_model.specs.Uses.{Use}
 use Rattle.flat_model.specs.Given.{Row, IsGiven}
-use Rattle.flat_model.proofs.Dependence.{AgreeOn, sample_count}
+use Rattle.flat_model.proofs.Dependence.{AgreeOn}
 use Rattle.flat_model.proofs.Agreement.{SameBefore, SameUpTo, SameSites, sites_agree, class_ticks_now}
 use Rattle.flat_model.proofs.GivenValues.{AreOfOneClass, given_where_met}
 

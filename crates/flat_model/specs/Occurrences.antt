@@ -1,5 +1,5 @@
--- Where names stand in an expression: bare, held, converted; never inside a `sample`, nor under `previous`, `interval` or `firstTick`.
-use Rattle.std.specs.Prelude.{ℕ, ◌+◌, ◌==◌, Bool, true, false, ◌&&◌, sum}
+-- Where names stand in an expression, outside the arguments of `sample`: bare, held, converted, or uncut.
+use Rattle.std.specs.Prelude.{ℕ, ◌+◌, ◌==◌, Bool, true, false, ◌&&◌, Option, Some, None, sum}
 use Rattle.std.specs.List.{list_any, list_all}
 use Rattle.sync_values.specs.declared.value.ChainOp.{ChainOp}
 use Rattle.sync_values.specs.declared.value.ChainOp.TheVariants.{Plus, Minus}
@@ -45,6 +45,45 @@ held_count x = fold-Expr (Unit {0}) ℕ (λ _. tt) (held_in_level x)
 -- how often it is the argument of a conversion
 unfoldable pub converted_count : ℕ → Expr → ℕ
 converted_count x = fold-Expr (Unit {0}) ℕ (λ _. tt) (converted_in_level x)
+
+-- 1 where a name is given and is the one that is asked for
+abbrev pub one_if_given : ℕ → Option ℕ → ℕ
+one_if_given x None = 0
+one_if_given x (Some y) = one_if (y == x)
+
+abbrev pub uncut_in_level : ℕ → Expr-F (Unit {0}) ℕ → ℕ
+uncut_in_level x (Expr-F.Read y) = one_if (y == x)
+uncut_in_level x (Expr-F.Previous y) = one_if (y == x)
+uncut_in_level x (Expr-F.FirstTick y) = one_if_given x y
+uncut_in_level x (Expr-F.IntervalTimes y k) = one_if_given x y
+uncut_in_level x level = sum_of_parts level
+
+-- how often it stands bare or as the argument of `previous`, `firstTick` or `interval`
+unfoldable pub uncut_count : ℕ → Expr → ℕ
+uncut_count x = fold-Expr (Unit {0}) ℕ (λ _. tt) (uncut_in_level x)
+
+abbrev pub samples_in_level : Expr-F (Unit {0}) ℕ → ℕ
+samples_in_level (Expr-F.Sample part clock) = 1
+samples_in_level level = sum_of_parts level
+
+-- how often a `sample` stands in an expression, not counting those inside another
+unfoldable pub sample_count : Expr → ℕ
+sample_count = fold-Expr (Unit {0}) ℕ (λ _. tt) samples_in_level
+
+abbrev pub direct_level : Expr-F (Unit {0}) Bool → Bool
+direct_level (Expr-F.Const v) = true
+direct_level (Expr-F.Read x) = true
+direct_level (Expr-F.Chain parts ops) = list_all (λ part. part) parts
+direct_level (Expr-F.Relation rel left right) = left && right
+direct_level (Expr-F.Neg part) = part
+direct_level (Expr-F.Not part) = part
+direct_level (Expr-F.If conditions branches other) = list_all (λ part. part) conditions && list_all (λ part. part) branches && other
+direct_level (Expr-F.Apply function parts) = list_all (λ part. part) parts
+direct_level _ = false
+
+-- of constants, names, operators and functions alone
+unfoldable pub is_direct : Expr → Bool
+is_direct = fold-Expr (Unit {0}) Bool (λ _. tt) direct_level
 
 abbrev pub is_sum : ChainOp → Bool
 is_sum Plus = true

@@ -4,6 +4,11 @@ use Rattle.rational_time.specs.declared.ratio.Ratio.{Ratio}
 use Rattle.rational_time.specs.Fraction.{at_most, IsTickWithin}
 use Rattle.flat_model.specs.declared.clock.Clock.{Clock}
 use Rattle.flat_model.specs.declared.clock.Clock.TheVariants.{Periodic, Event}
+use Rattle.flat_model.specs.Setting.{Setting}
+
+-- how many ticks and rows a run has at most
+abbrev pub plan_limit : ℕ
+plan_limit = 67108864
 
 -- the rows that are not after the stop
 abbrev pub rows_within : List Ratio → Ratio → ℕ
@@ -22,3 +27,7 @@ HaveTicks stop rows (clock ∷ clocks) n = (own : ℕ) × (others : ℕ) × HasT
 -- the rows and the ticks of a run up to the stop
 abbrev pub IsPlanned : List Clock → List Ratio → Ratio → ℕ → Type 0
 IsPlanned clocks times stop count = (ticks : ℕ) × HaveTicks stop (rows_within times stop) clocks ticks × (count ≡ rows_within times stop + ticks)
+
+-- the run of a setting up to the stop has this many rows and ticks
+abbrev pub HasPlan : Setting → Ratio → ℕ → Type 0
+HasPlan s stop count = IsPlanned s.clocking.clocks s.table.times stop count

@@ -42,24 +42,35 @@ abbrev pub clock_of : Setting → Option ℕ → Option Clock
 clock_of s None = None
 clock_of s (Some class) = slice_get s.clocking.clocks class
 
+-- the base partition of a class
+abbrev pub partition_of : Setting → Option ℕ → Option ℕ
+partition_of s None = None
+partition_of s (Some class) = slice_get s.clocking.partitions class
+
+-- the start of a name that may be there
+abbrev pub start_in : Option FlatName → Value
+start_in None = value.Bool false
+start_in (Some name) = name.start
+
 abbrev pub start_of : Setting → ℕ → Value
 start_of s x = start_in (slice_get s.model.names x)
-  where
-    start_in : Option FlatName → Value
-    start_in None = value.Bool false
-    start_in (Some name) = name.start
 
 -- what a name that no clock governs can be read as: its value now, and nothing of ticks
 abbrev pub unclocked_view : Assignment → ℕ → View
 unclocked_view S m = record { now = λ x. S x m; previous = λ x. None; last = λ x. None; first = false; interval = record { num = 0; den = 1 } }
 
+-- the same at m and at the moments before it
+abbrev pub unclocked_views : Assignment → ℕ → Views
+unclocked_views S m back = unclocked_view S (m - back)
+
+-- the answer of a condition that may be there
+abbrev pub answer_in : Views → Option Expr → Answer
+answer_in views None = Absent
+answer_in views (Some condition) = value_of condition views
+
 -- the answer of a site's condition, which reads inputs and unclocked names alone
 abbrev pub site_answer : Setting → Assignment → ℕ → ℕ → Answer
-site_answer s S site m = answer_in (slice_get s.clocking.sites site)
-  where
-    answer_in : Option Expr → Answer
-    answer_in None = Absent
-    answer_in (Some condition) = value_of condition (λ back. unclocked_view S (m - back))
+site_answer s S site m = answer_in (unclocked_views S m) (slice_get s.clocking.sites site)
 
 abbrev pub is_true : Answer → Bool
 is_true (Is (value.Bool b)) = b
@@ -86,14 +97,15 @@ clock_ticks s S m (Some (At t)) (Event site factor shift) =
     rises s S site m && nat_le shift (risings_before s S site m) && (risings_before s S site m - shift) % factor == 0
 clock_ticks s S m _ clock = false
 
+-- a clock that may be there ticks at m
+abbrev pub ticks_in : Setting → Assignment → ℕ → Option Clock → Bool
+ticks_in s S m None = false
+ticks_in s S m (Some clock) = clock_ticks s S m (moment_at s.instants m) clock
+
 -- the class ticks at m; what is unclocked counts at every moment
 abbrev pub class_ticks : Setting → Assignment → Option ℕ → ℕ → Bool
 class_ticks s S None m = true
-class_ticks s S (Some class) m = ticks_of (slice_get s.clocking.clocks class)
-  where
-    ticks_of : Option Clock → Bool
-    ticks_of None = false
-    ticks_of (Some clock) = clock_ticks s S m (moment_at s.instants m) clock
+class_ticks s S (Some class) m = ticks_in s S m (slice_get s.clocking.clocks class)
 
 abbrev pub name_ticks : Setting → Assignment → ℕ → ℕ → Bool
 name_ticks s S x m = class_ticks s S (class_of_name s x) m
@@ -106,14 +118,15 @@ abbrev pub time_between : Option Moment → Option Moment → Length
 time_between (Some (At t)) (Some (At u)) = record { num = u.num * t.den - t.num * u.den; den = t.den * u.den }
 time_between _ _ = record { num = 0; den = 1 }
 
+-- the time from a tick that may be there to m
+abbrev pub since : Setting → ℕ → Option ℕ → Length
+since s m None = record { num = 0; den = 1 }
+since s m (Some k) = time_between (moment_at s.instants k) (moment_at s.instants m)
+
 -- the interval of a clock at m: the period, or for an Event clock the time since the tick before, 0 at the first
 abbrev pub interval_at : Setting → (ℕ → Bool) → ℕ → Option Clock → Length
 interval_at s ticks m (Some (Periodic period start)) = record { num = period.num; den = period.den }
-interval_at s ticks m (Some (Event site factor shift)) = since (tick_before ticks m)
-  where
-    since : Option ℕ → Length
-    since None = record { num = 0; den = 1 }
-    since (Some k) = time_between (moment_at s.instants k) (moment_at s.instants m)
+interval_at s ticks m (Some (Event site factor shift)) = since s m (tick_before ticks m)
 interval_at s ticks m None = record { num = 0; den = 1 }
 
 -- what can be read at m in an equation of a class

@@ -44,7 +44,7 @@ is_type kind.Integer (Some kind.Integer) = true
 is_type kind.Boolean (Some kind.Boolean) = true
 is_type _ _ = false
 
--- the type, where all arguments are of another one
+-- the type, where what a rule of types asks holds
 abbrev pub typed_if : Bool → NameKind → Option NameKind
 typed_if taken type = if taken then Some type else None
 
@@ -95,8 +95,8 @@ arity _ = 2
 abbrev pub call_type : Fun → List (Option NameKind) → Option NameKind
 call_type function parts = typed_if (length parts == arity function && list_all (is_type kind.Integer) parts) kind.Integer
 
--- one level of an expression whose parts have types
-abbrev pub type_of_level : Types → Expr-F (Unit {0}) (Option NameKind) → Option NameKind
+-- one level of an expression whose parts have types, whatever its clocks are
+abbrev pub type_of_level : {C : Type 0} → Types → Expr-F C (Option NameKind) → Option NameKind
 type_of_level types (Expr-F.Const v) = typed_if (is_value v) (type_of_value v)
 type_of_level types (Expr-F.Read x) = valued_type (types x)
 type_of_level types (Expr-F.Chain parts ops) = chain_type parts ops

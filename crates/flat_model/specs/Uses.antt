@@ -1,6 +1,7 @@
 -- What an equation reads now, for which names it is solvable, and which equation reaches which name. This project's own.
 use Rattle.std.specs.Prelude.{◌≡◌, ◌≢◌, ℕ, ◌+◌, ◌<◌, ◌⊎◌, true, false, List, [], ◌∷◌, ◌++◌, Option, Some, slice_get, map, Contains}
 use Rattle.flat_model.specs.declared.clock.Clock.{Clock}
+use Rattle.flat_model.specs.declared.clock.Clock.TheVariants.{Event}
 use Rattle.flat_model.specs.declared.expression.Expr.{Expr}
 use Rattle.flat_model.specs.declared.equation.Equation.{Equation}
 use Rattle.flat_model.specs.declared.equation.Equation.TheVariants.{Valued, Clocks}
@@ -79,3 +80,8 @@ AreUsesAfter s uses (entry ∷ rest) = IsNextUse s uses entry × AreUsesAfter s 
 -- all uses of a model, in order
 abbrev pub AreUses : Setting → List Use → Type 0
 AreUses s uses = AreUsesAfter s [] uses
+
+-- the condition of a class's site, where its clock is an Event clock, reads y
+abbrev pub SiteReads : Setting → Option ℕ → ℕ → Type 0
+SiteReads s class y = (site : ℕ) × (factor : ℕ) × (shift : ℕ) × (condition : Expr) × (clock_of s class ≡ Some (Event site factor shift))
+    × (slice_get s.clocking.sites site ≡ Some condition) × (0 < bare_count y condition)

@@ -225,11 +225,7 @@ pub fn eval<V: Lookup>(expr: &Expr, values: &V) -> Result<Value, Fail>
 /// # Errors
 ///
 /// The leftmost failure of a part that is evaluated.
-pub fn eval_chain<V: Lookup>(
-    parts: &[Expr],
-    ops: &[ChainOp],
-    values: &V,
-) -> Result<Value, Fail>
+pub fn eval_chain<V: Lookup>(parts: &[Expr], ops: &[ChainOp], values: &V) -> Result<Value, Fail>
     requires present { chain ops.now (answers parts.now (V.views values.now)) ≢ Absent }
     requires samples { all_samples_are_plain parts.now ≡ true }
     requires interval { IsMeasurable (V.elapsed values.now) }
