@@ -7,15 +7,13 @@ use Rattle.flat_model.specs.declared.clock.Clock.TheVariants.{Periodic, Event}
 use Rattle.flat_model.specs.declared.clock.Moment.{Moment}
 use Rattle.flat_model.specs.declared.clock.Moment.TheVariants.{Initial, At}
 use Rattle.flat_model.specs.declared.expression.Expr.{Expr}
-use Rattle.flat_model.specs.Operators.{Answer, Absent}
-use Rattle.flat_model.specs.Views.{Length, View, Views, before}
-use Rattle.flat_model.specs.Meaning.{value_of}
+use Rattle.flat_model.specs.Views.{View, Views, before}
 use Rattle.flat_model.specs.Moments.{moment_at}
 use Rattle.flat_model.specs.Assignment.{Assignment, tick_before, value_at_tick, last_value, previous_value}
-use Rattle.flat_model.specs.Setting.{Setting, class_of_name, clock_of, start_of, unclocked_view, site_answer, is_true, is_false, rises, risings_before, clock_ticks, class_ticks, name_ticks, time_between, interval_at, view_at, views_at, class_of_equation}
+use Rattle.flat_model.specs.Setting.{Setting, class_of_name, clock_of, start_of, unclocked_view, unclocked_views, answer_in, site_answer, is_true, is_false, rises, risings_before, clock_ticks, ticks_in, class_ticks, name_ticks, since, interval_at, view_at, views_at, class_of_equation}
 use Rattle.flat_model.specs.Meets.{MeetsAt, HasValueAtTicks, HasOneValue}
 use Rattle.flat_model.specs.Occurrences.{bare_count, held_count, converted_count, sample_count}
-use Rattle.flat_model.proofs.Dependence.{AgreeOn, value_rests}
+use Rattle.flat_model.proofs.Dependence.{AgreeOn, value_rests, counted_agree}
 
 -- two assignments have the same values before m, and up to m
 abbrev pub SameBefore : Assignment → Assignment → ℕ → Type 0
@@ -50,19 +48,9 @@ previous_same f g xs ys start k ticks values =
 
 -- the clocks
 
-answer_in : Views → Option Expr → Answer
-answer_in views None = Absent
-answer_in views (Some condition) = value_of condition views
-
-site_is : (s : Setting) (S : Assignment) (site k : ℕ) → site_answer s S site k ≡ answer_in (λ back. unclocked_view S (k - back)) (slice_get s.clocking.sites site)
-unfolding answer_in
-site_is s S site k = refl
-
 pub site_same : (s : Setting) (S T : Assignment) (site m k : ℕ) → SameUpTo S T m → k ≤ m → site_answer s S site k ≡ site_answer s T site k
 site_same s S T site m k same le =
-    site_is s S site k
-    ∙ ap (λ views. answer_in views (slice_get s.clocking.sites site)) (fun_ext (λ back. ap unclocked (fun_ext (λ x. same x (k - back) (omega arith)))))
-    ∙ sym (site_is s T site k)
+    ap (λ views. answer_in views (slice_get s.clocking.sites site)) (fun_ext (λ back. ap unclocked (fun_ext (λ x. same x (k - back) (omega arith)))))
   where
     unclocked : (ℕ → Option Value) → View
     unclocked now = unclocked_view (λ x m. now x) 0
@@ -72,15 +60,14 @@ abbrev pub SameSites : Setting → Assignment → Assignment → ℕ → Type 0
 SameSites s S T m = (site : ℕ) → site_answer s S site m ≡ site_answer s T site m
 
 answers_same : (condition : Option Expr) (v w : Views) → ((e : Expr) → condition ≡ Some e → AgreeOn e v w) → answer_in v condition ≡ answer_in w condition
-unfolding answer_in
 answers_same None v w agree = refl
 answers_same (Some e) v w agree = value_rests e v w (agree e refl)
 
 -- where the views of each condition agree
 pub sites_agree : (s : Setting) (S T : Assignment) (m : ℕ)
-    → ((site : ℕ) (e : Expr) → slice_get s.clocking.sites site ≡ Some e → AgreeOn e (λ back. unclocked_view S (m - back)) (λ back. unclocked_view T (m - back)))
+    → ((site : ℕ) (e : Expr) → slice_get s.clocking.sites site ≡ Some e → AgreeOn e (unclocked_views S m) (unclocked_views T m))
     → SameSites s S T m
-sites_agree s S T m agree site = site_is s S site m ∙ answers_same (slice_get s.clocking.sites site) _ _ (agree site) ∙ sym (site_is s T site m)
+sites_agree s S T m agree site = answers_same (slice_get s.clocking.sites site) _ _ (agree site)
 
 before_up_to : (S T : Assignment) (m k : ℕ) → SameBefore S T m → k < m → SameUpTo S T k
 before_up_to S T m k same lt x j le = same x j (omega arith)
@@ -104,24 +91,15 @@ clock_ticks_now s S T m (Some (At t)) (Periodic period start) same sites = refl
 clock_ticks_now s S T m (Some (At t)) (Event site factor shift) same sites =
     ap₂ (λ b n. b && nat_le shift n && (n - shift) % factor == 0) (rises_now s S T site m same sites) (risings_now s S T site m same)
 
-ticks_in : Setting → Assignment → ℕ → Option Clock → Bool
-ticks_in s S k None = false
-ticks_in s S k (Some clock) = clock_ticks s S k (moment_at s.instants k) clock
-
 ticks_in_now : (s : Setting) (S T : Assignment) (m : ℕ) (clock : Option Clock) → SameBefore S T m → SameSites s S T m → ticks_in s S m clock ≡ ticks_in s T m clock
-unfolding ticks_in
 ticks_in_now s S T m None same sites = refl
 ticks_in_now s S T m (Some clock) same sites = clock_ticks_now s S T m (moment_at s.instants m) clock same sites
-
-ticks_are : (s : Setting) (S : Assignment) (class k : ℕ) → class_ticks s S (Some class) k ≡ ticks_in s S k (slice_get s.clocking.clocks class)
-unfolding ticks_in
-ticks_are s S class k = refl
 
 -- ticks rest on what comes before, and on the sites
 pub class_ticks_now : (s : Setting) (S T : Assignment) (class : Option ℕ) (m : ℕ) → SameBefore S T m → SameSites s S T m → class_ticks s S class m ≡ class_ticks s T class m
 class_ticks_now s S T None m same sites = refl
 class_ticks_now s S T (Some class) m same sites =
-    ticks_are s S class m ∙ ticks_in_now s S T m (slice_get s.clocking.clocks class) same sites ∙ sym (ticks_are s T class m)
+    ticks_in_now s S T m (slice_get s.clocking.clocks class) same sites
 
 pub class_ticks_same : (s : Setting) (S T : Assignment) (class : Option ℕ) (m k : ℕ) → SameUpTo S T m → k ≤ m → class_ticks s S class k ≡ class_ticks s T class k
 class_ticks_same s S T class m k same le =
@@ -131,7 +109,7 @@ interval_same : (s : Setting) (f g : ℕ → Bool) (k : ℕ) (clock : Option Clo
 interval_same s f g k None same = refl
 interval_same s f g k (Some (Periodic period start)) same = refl
 interval_same s f g k (Some (Event site factor shift)) same =
-    ap (λ o. elim o as (λ _. Length) [ None ↦ record { num = 0; den = 1 } | Some j ↦ time_between (moment_at s.instants j) (moment_at s.instants k) ]) (tick_before_same f g k same)
+    ap (since s k) (tick_before_same f g k same)
 
 -- the views
 
@@ -189,7 +167,7 @@ sampled_same s S T class (suc k) same later = fun_ext (λ back. view_same s S T 
 pub views_agree : (s : Setting) (S T : Assignment) (class : Option ℕ) (m : ℕ) (e : Expr) → SameBefore S T m
     → ((x : ℕ) → 0 < bare_count x e → S x m ≡ T x m) → ((x : ℕ) → 0 < held_count x e → SameNow s S T m x) → ((x : ℕ) → 0 < converted_count x e → SameNow s S T m x)
     → (m ≡ 0 → 0 < sample_count e → ⊥) → AgreeOn e (views_at s S class m) (views_at s T class m)
-views_agree s S T class m e same bare held converted sampled = record {
+views_agree s S T class m e same bare held converted sampled = counted_agree e _ _ (record {
   now = λ x some. subst (λ k. S x k ≡ T x k) here (bare x some);
   held = λ x some. last x (held x some);
   converted = λ x some. last x (converted x some);
@@ -197,7 +175,7 @@ views_agree s S T class m e same bare held converted sampled = record {
   previous = λ x. previous_same _ _ _ _ _ (m - 0) (λ j lt. ticks_earlier s S T (class_of_name s x) m j same (omega arith)) (λ j lt. same x j (omega arith));
   first = ap is_none (tick_before_same _ _ (m - 0) (λ j lt. ticks_earlier s S T class m j same (omega arith)));
   interval = interval_same s _ _ (m - 0) (clock_of s class) (λ j lt. ticks_earlier s S T class m j same (omega arith));
-}
+})
   where
     here : m ≡ m - 0
     here = omega arith

@@ -7,12 +7,12 @@ use Rattle.flat_model.specs.declared.model.FlatName.{FlatName}
 use Rattle.flat_model.specs.declared.model.NameKind.{NameKind}
 use Rattle.flat_model.specs.declared.model.NameKind.TheVariants as kind
 use Rattle.flat_model.specs.Assignment.{Assignment}
-use Rattle.flat_model.specs.Setting.{Setting, class_of_name, unclocked_view, class_ticks, name_ticks}
+use Rattle.flat_model.specs.Setting.{Setting, class_of_name, unclocked_views, class_ticks, name_ticks}
 use Rattle.flat_model.specs.Meets.{MeetsAt, Meets, HasValueAtTicks}
 use Rattle.flat_model.specs.Occurrences.{bare_count, sample_count}
 use Rattle.flat_model.specs.Uses.{Use}
 use Rattle.flat_model.specs.Given.{Row, IsGiven}
-use Rattle.flat_model.proofs.Dependence.{AgreeOn}
+use Rattle.flat_model.proofs.Dependence.{AgreeOn, counted_agree}
 use Rattle.flat_model.proofs.Agreement.{SameBefore, SameUpTo, SameSites, sites_agree, class_ticks_now}
 use Rattle.flat_model.proofs.GivenValues.{AreOfOneClass, given_where_met}
 
@@ -25,8 +25,8 @@ abbrev pub AreSitesUnclocked : Setting → Type 0
 AreSitesUnclocked s = (site : ℕ) (condition : Expr) → slice_get s.clocking.sites site ≡ Some condition → ReadsUnclocked s condition
 
 conditions_agree : (s : Setting) (S T : Assignment) (m : ℕ) (condition : Expr) → sample_count condition ≡ 0 → ((y : ℕ) → 0 < bare_count y condition → S y m ≡ T y m)
-    → AgreeOn condition (λ back. unclocked_view S (m - back)) (λ back. unclocked_view T (m - back))
-conditions_agree s S T m condition none same = record {
+    → AgreeOn condition (unclocked_views S m) (unclocked_views T m)
+conditions_agree s S T m condition none same = counted_agree condition _ _ (record {
   now = λ y some. subst (λ k. S y k ≡ T y k) (let e : m ≡ m - 0 = omega arith in e) (same y some);
   held = λ y some. refl;
   converted = λ y some. refl;
@@ -34,7 +34,7 @@ conditions_agree s S T m condition none same = record {
   previous = λ y. refl;
   first = refl;
   interval = refl;
-}
+})
 
 -- a name of two assignments that both meet the model, where it ticks alike in both and the values of the first are those of the second
 name_same : (k : NameKind) (ticks : Bool) (a b : Option Value) → HasValueAtTicks k ticks a → HasValueAtTicks k ticks b → ((v : Value) → a ≡ Some v → b ≡ Some v) → a ≡ b

@@ -74,3 +74,9 @@ asked = fold-Expr (Unit {0}) Asked (λ _. tt) asked_in_level
 -- an expression asks for this, so many moments back
 abbrev pub AsksFor : Expr → ℕ → Asking → Type 0
 AsksFor e back asking = 0 < asked e back asking
+
+-- what may be asked for inside the argument of a `sample`
+abbrev pub IsSampled : Asking → Type 0
+IsSampled (OfNow y) = Unit {0}
+IsSampled (OfLast y) = Unit {0}
+IsSampled _ = ⊥

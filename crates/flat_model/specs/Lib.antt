@@ -12,6 +12,7 @@ pub mod Meaning
 pub mod Meets
 pub mod Models
 pub mod Moments
+pub mod NextInstant
 pub mod Occurrences
 pub mod Operators
 pub mod Parts

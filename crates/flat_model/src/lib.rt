@@ -4,6 +4,7 @@
 #![tactic(auto)]
 
 mod clock;
+mod copy;
 mod equation;
 mod evaluate;
 mod expression;
@@ -17,6 +18,7 @@ mod raw;
 mod table;
 
 pub use clock::{Clock, ClockExpr, Clocking, Conversion, Elapsed, Moment};
+pub use copy::{copied_clock, copied_expr};
 pub use equation::Equation;
 pub use evaluate::{eval, eval_chain};
 pub use expression::{Expr, Fun};
