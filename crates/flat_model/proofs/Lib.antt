@@ -15,6 +15,7 @@ pub mod Ratios
 pub mod Sites
 pub mod Standings
 pub mod Ticks
+pub mod Totals
 pub mod Typed
 pub mod Values
 pub mod Wholes

@@ -16,6 +16,7 @@ mod operate;
 mod place;
 mod raw;
 mod table;
+mod total;
 
 pub use clock::{Clock, ClockExpr, Clocking, Conversion, Elapsed, Moment};
 pub use copy::{copied_clock, copied_expr};
@@ -26,6 +27,8 @@ pub use fault::{Fault, FaultPlace};
 pub use law::tick_law;
 pub use lookup::Lookup;
 pub use model::{FlatModel, FlatName, NameKind};
+pub use operate::Answer;
 pub use place::Place;
 pub use raw::{RawEq, RawExpr, RawModel};
 pub use table::{Left, Table};
+pub use total::answer;
