@@ -1,6 +1,7 @@
 pub mod Above
 pub mod Agreement
 pub mod Asks
+pub mod Conditions
 pub mod Dependence
 pub mod Evaluations
 pub mod GivenValues
@@ -10,6 +11,7 @@ pub mod InstantsOnce
 pub mod Levels
 pub mod Links
 pub mod Nodes
+pub mod OneAnswer
 pub mod OneSolution
 pub mod Ratios
 pub mod Sites

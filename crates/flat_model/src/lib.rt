@@ -24,7 +24,7 @@ pub use equation::Equation;
 pub use evaluate::{eval, eval_chain};
 pub use expression::{Expr, Fun};
 pub use fault::{Fault, FaultPlace};
-pub use law::tick_law;
+pub use law::{condition_law, given_law, instants_law, tick_law, uses_law};
 pub use lookup::Lookup;
 pub use model::{FlatModel, FlatName, NameKind};
 pub use operate::Answer;

@@ -10,7 +10,7 @@ use sync_values::{
 };
 
 /// What an expression gives at a moment.
-#[derive(Clone, Copy)]
+#[derive(Clone, Copy, PartialEq, Eq)]
 pub enum Answer {
     Is(Value),
     /// Its leftmost failure.
