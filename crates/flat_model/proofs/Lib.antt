@@ -20,4 +20,5 @@ pub mod Ticks
 pub mod Totals
 pub mod Typed
 pub mod Values
+pub mod WholeTypes
 pub mod Wholes
