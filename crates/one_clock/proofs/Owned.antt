@@ -1,8 +1,10 @@
 -- What is told of names is of one's own, and what is told of a rate are counters.
-use Rattle.std.proofs.Common.{◌≡◌, refl, subst, ℕ, zero, suc, pos, negsuc, ◌^◌, nat_lt, Bool, true, false, ◌&&◌, List, [], ◌∷◌, codes, map, Option, Some, None, Result, Ok, Err, ℤ, option_map, if◌then◌else◌, leb-true, ltb-true, arith}
+use Rattle.std.proofs.Common.{◌≡◌, refl, subst, ℕ, zero, suc, pos, negsuc, neg_ℤ, ◌^◌, nat_lt, Bool, true, false, ◌&&◌, List, [], ◌∷◌, codes, map, Option, Some, None, Result, Ok, Err, ℤ, option_map, if◌then◌else◌, leb-true, ltb-true, arith}
 use Rattle.std.specs.Option.{option_and_then}
 use Rattle.std.specs.Str.{bytes_eq}
+use Rattle.sync_values.specs.Arithmetic.{fitted}
 use Rattle.sync_values.specs.declared.value.Fail.{Fail}
+use Rattle.sync_values.specs.declared.value.Fail.TheVariants.{TooLarge}
 use Rattle.sync_values.specs.declared.value.Value.{Value}
 use Rattle.sync_values.specs.declared.value.Value.TheVariants as value
 use Rattle.mo_parser.specs.declared.tree.Arg.{Arg}
@@ -20,20 +22,32 @@ use Rattle.one_clock.specs.OneClock.{IsCount, AreCounters, IsOwnName, AreOwn}
 of_kind : (type : NameKind) (v w : Value) → IsOfKind type v → Some v ≡ Some w → IsOfKind type w
 of_kind type v w is some = let same : v ≡ w = cc some in subst (λ z. IsOfKind type z) same is
 
+-- a number that fits is the one that was asked for
+fitted_if : (b : Bool) (a z : ℤ) → fitted a ≡ (if b then Ok a else Err TooLarge) → (if b then Ok a else Err TooLarge) ≡ Ok z → fitted z ≡ Ok z
+fitted_if true a z is e = let same : a ≡ z = cc e in subst (λ w. fitted w ≡ Ok w) same is
+fitted_if false a z is e = absurd (cc e)
+
+keeps_fitting : (a z : ℤ) → fitted a ≡ Ok z → fitted z ≡ Ok z
+keeps_fitting (pos n) z e = fitted_if (nat_lt n (2 ^ 63)) (pos n) z refl e
+keeps_fitting (negsuc n) z e = fitted_if (nat_lt n (2 ^ 63)) (negsuc n) z refl e
+
+settled_is : (a : ℤ) (w : Value) → settled_start (fitted a) ≡ Some w → IsOfKind kind.Integer w
+settled_is a w is = by (fitted a) refl is
+  where
+    by : (number : Result ℤ Fail) → fitted a ≡ number → settled_start number ≡ Some w → IsOfKind kind.Integer w
+    by (Ok z) found is = of_kind kind.Integer (value.Int z) w (keeps_fitting a z found) is
+    by (Err fail) found is = absurd (cc is)
+
 literal_is : (type : NameKind) (v w : Value) → literal_by type v ≡ Some w → IsOfKind type w
-literal_is kind.Integer (value.Int z) w is = of_kind kind.Integer (value.Int z) w tt is
+literal_is kind.Integer (value.Int z) w is = settled_is z w is
 literal_is kind.Integer (value.Bool b) w is = absurd (cc is)
 literal_is kind.Boolean (value.Int z) w is = absurd (cc is)
 literal_is kind.Boolean (value.Bool b) w is = of_kind kind.Boolean (value.Bool b) w tt is
 literal_is kind.Clock (value.Int z) w is = absurd (cc is)
 literal_is kind.Clock (value.Bool b) w is = absurd (cc is)
 
-settled_is : (number : Result ℤ Fail) (w : Value) → settled_start number ≡ Some w → IsOfKind kind.Integer w
-settled_is (Ok z) w is = of_kind kind.Integer (value.Int z) w tt is
-settled_is (Err fail) w is = absurd (cc is)
-
 negative_is : (type : NameKind) (y : Node) (w : Value) → negative_by type y ≡ Some w → IsOfKind type w
-negative_is kind.Integer (TreeNode-F.Const (value.Int z)) w is = settled_is _ w is
+negative_is kind.Integer (TreeNode-F.Const (value.Int z)) w is = settled_is (neg_ℤ z) w is
 negative_is kind.Integer (TreeNode-F.Const (value.Bool b)) w is = absurd (cc is)
 negative_is kind.Integer (TreeNode-F.Name path) w is = absurd (cc is)
 negative_is kind.Integer (TreeNode-F.Call path arguments) w is = absurd (cc is)
@@ -58,7 +72,7 @@ start_is type (TreeNode-F.Power base exponent) w is = absurd (cc is)
 start_is type (TreeNode-F.If conditions branches other) w is = absurd (cc is)
 
 without_is : (type : NameKind) (w : Value) → start_without type ≡ Some w → IsOfKind type w
-without_is kind.Integer w is = of_kind kind.Integer (value.Int (pos 0)) w tt is
+without_is kind.Integer w is = of_kind kind.Integer (value.Int (pos 0)) w refl is
 without_is kind.Boolean w is = of_kind kind.Boolean (value.Bool false) w tt is
 without_is kind.Clock w is = absurd (cc is)
 

@@ -14,11 +14,11 @@ use Rattle.flat_model.specs.declared.expression.Expr.{Expr}
 use Rattle.flat_model.specs.declared.expression.Expr.TheVariants.{Const, Read, Chain, Relation, Neg, Not, If, Apply, Previous, FirstTick, IntervalTimes, Hold, Convert, Sample, rolls-Const, rolls-Read, rolls-Chain, rolls-Relation, rolls-Neg, rolls-Not, rolls-If, rolls-Apply, rolls-Previous, rolls-FirstTick, rolls-IntervalTimes, rolls-Hold, rolls-Convert, rolls-Sample}
 use Rattle.flat_model.specs.declared.clock.ClockExpr.TheOpen.{Expr-F}
 use Rattle.flat_model.specs.declared.clock.ClockExpr.TheFolds.{fold-roll-Expr}
-use Rattle.flat_model.specs.Typing.{Types, type_of, type_of_level, type_of_value, valued_type, is_type, typed_if, type_if_all, goes_with, type_of_operator, chain_type, relation_type, if_type, arity}
+use Rattle.flat_model.specs.Typing.{Types, type_of, type_of_level, type_of_value, is_value, valued_type, is_type, typed_if, type_if_all, goes_with, type_of_operator, chain_type, relation_type, if_type, arity}
 use Rattle.one_clock.specs.Shapes.{operand_type, has_branches}
 
 module _ (types : Types) where
-  pub type_of-Const : (v : Value) → type_of types (Const v) ≡ Some (type_of_value v)
+  pub type_of-Const : (v : Value) → type_of types (Const v) ≡ typed_if (is_value v) (type_of_value v)
   unfolding type_of
   type_of-Const v = ap (type_of types) (sym (rolls-Const v)) ∙ fold-roll-Expr (Unit {0}) (Option NameKind) (λ _. tt) (type_of_level types) (Expr-F.Const v)
 

@@ -46,17 +46,18 @@ kind_called name =
     if bytes_eq name (codes "Integer") then Some kind.Integer else
     if bytes_eq name (codes "Boolean") then Some kind.Boolean else None
 
--- a literal of the type
-abbrev pub literal_by : NameKind → Value → Option Value
-literal_by kind.Integer (value.Int z) = Some (value.Int z)
-literal_by kind.Boolean (value.Bool b) = Some (value.Bool b)
-literal_by _ _ = None
-
--- the number with the other sign
+-- a number that fits 64 bits, as a start
 abbrev pub settled_start : Result ℤ Fail → Option Value
 settled_start (Ok z) = Some (value.Int z)
 settled_start (Err fail) = None
 
+-- a literal of the type
+abbrev pub literal_by : NameKind → Value → Option Value
+literal_by kind.Integer (value.Int z) = settled_start (fitted z)
+literal_by kind.Boolean (value.Bool b) = Some (value.Bool b)
+literal_by _ _ = None
+
+-- the number with the other sign
 abbrev pub negative_by : NameKind → Node → Option Value
 negative_by kind.Integer (TreeNode-F.Const (value.Int z)) = settled_start (fitted (neg_ℤ z))
 negative_by _ _ = None

@@ -7,12 +7,13 @@ ghost use Rattle.one_clock.specs.Shapes as shapes;
 use flat_model::{Expr, FlatName, Fun, NameKind};
 use sync_values::{ChainOp, Value};
 
-fn type_of_value(value: Value) -> NameKind
-    ensures { result ≡ spec.type_of_value value }
+/// The type of a constant; each that the program holds fits 64 bits.
+fn type_of_constant(value: Value) -> Option<NameKind>
+    ensures { result ≡ spec.typed_if (spec.is_value value) (spec.type_of_value value) }
 {
     match value {
-        Value::Int(_) => NameKind::Integer,
-        Value::Bool(_) => NameKind::Boolean,
+        Value::Int(_) => Some(NameKind::Integer),
+        Value::Bool(_) => Some(NameKind::Boolean),
     }
 }
 
@@ -140,7 +141,7 @@ pub fn type_of(names: &[FlatName], expr: &Expr) -> Option<NameKind>
     ensures { result ≡ spec.type_of (spec.types_in names.now) expr.now }
 {
     match expr {
-        Expr::Const(value) => Some(type_of_value(*value)),
+        Expr::Const(value) => type_of_constant(*value),
         Expr::Read(name) | Expr::Previous(name) | Expr::Hold(name) | Expr::Convert(_, name) => {
             type_of_name(names, *name)
         }
