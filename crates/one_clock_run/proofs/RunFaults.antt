@@ -22,7 +22,7 @@ use Rattle.flat_model.specs.Faults.{SiteFails, EquationFails, SomethingFails, Is
 use Rattle.one_clock.specs.OneClock.{AreOwnNames, AreOrdered, IsOneClock}
 use Rattle.one_clock_run.specs.Setting.{IsClockOf, IsSettingOf}
 use Rattle.one_clock_run.specs.Computed.{starts_of, views_of, Failing, FailingAt, rows_from, first_failing}
-use Rattle.one_clock_run.specs.Runs.{fault_line, IsFaultedRun}
+use Rattle.flat_model.specs.Runs.{fault_line, IsFaultedRun}
 use Rattle.one_clock_run.specs.Values.{AreValuesOf}
 use Rattle.one_clock_run.proofs.Settings.{setting_of}
 use Rattle.one_clock_run.proofs.Computing.{Holds, IsFailing, IsStep, step_is, value_in, assignment_of, HasValues, values_are, AreTickValues, tick_values, fewer_have, IsFailingTick, failing_tick}
@@ -179,7 +179,7 @@ faulted_at model counter resolution stop s f t one h fails here = record {
   found = let is = failing_moment model s.instants f fails in moment_found s.instants f.moment t is.0 is.1 here;
   fault = subst (λ m. IsFirstFault s (assignment_of model) m (Equation f.failing.equation) f.failing.kind) (sym tick.moment_is)
       (subst (λ u. IsFirstFault u (assignment_of model) (suc (0 + tick.place)) (Equation f.failing.equation) f.failing.kind) (same_setting model counter resolution stop s h)
-      (first_fault model counter resolution h.period h.start stop s.instants (0 + tick.place) tick.before f.failing one h.clock (instants_of model counter resolution stop s h)
+      (first_fault model counter resolution h.base.period h.base.start stop s.instants (0 + tick.place) tick.before f.failing one h.base.clock (instants_of model counter resolution stop s h)
       (record { within = omega (arith, tick.within); after = tick.before_is }) failing));
   out_is = sym (rows_before model counter resolution stop s f one h fails);
   err_is = refl;

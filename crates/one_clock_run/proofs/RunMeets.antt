@@ -25,7 +25,7 @@ use Rattle.flat_model.specs.Trace.{columns_of, header_text, rows_text, trace_tex
 use Rattle.flat_model.proofs.Values.{value_of-Read}
 use Rattle.one_clock.specs.OneClock.{IsEquation, AreOwnNames, AreOrdered, IsOneClock}
 use Rattle.one_clock_run.specs.Setting.{if_any, clocking_of, IsClockOf, IsSettingOf}
-use Rattle.one_clock_run.specs.Runs.{IsWholeRun}
+use Rattle.flat_model.specs.Runs.{IsWholeRun}
 use Rattle.one_clock_run.specs.Computed.{starts_of, FailingAt, first_failing, rows_from}
 use Rattle.one_clock_run.proofs.Settings.{setting_of}
 use Rattle.one_clock_run.proofs.Computing.{value_in, assignment_of, HasValues, AreTickValues, tick_values, fewer_have, none_failing, failing_tick}
@@ -124,21 +124,21 @@ abbrev of_parts : FlatModel → Clocking → Table → List Ratio → Setting
 of_parts model clocking table instants = record { model = model; clocking = clocking; table = table; instants = instants }
 
 module _ (model : FlatModel) (counter resolution : ℕ) (stop : Ratio) (s : Setting) (h : IsSettingOf model counter resolution stop s) where
-  pub same_setting : setting_of model h.period h.start s.instants ≡ s
+  pub same_setting : setting_of model h.base.period h.base.start s.instants ≡ s
   same_setting = sym (
-      ap (λ m. of_parts m s.clocking s.table s.instants) h.model_is
-      ∙ ap (λ clocking. of_parts model clocking s.table s.instants) h.clocking_is
-      ∙ ap (λ table. of_parts model (clocking_of model h.period h.start) table s.instants) h.table_is)
+      ap (λ m. of_parts m s.clocking s.table s.instants) h.base.model_is
+      ∙ ap (λ clocking. of_parts model clocking s.table s.instants) h.base.clocking_is
+      ∙ ap (λ table. of_parts model (clocking_of model h.base.period h.base.start) table s.instants) h.base.table_is)
 
-  pub instants_of : AreInstants (if_any model.equations (Periodic h.period h.start)) (h.start ∷ []) stop s.instants
-  instants_of = subst (λ table. AreInstants (if_any model.equations (Periodic h.period h.start)) table.times stop s.instants) h.table_is
-      (subst (λ clocking. AreInstants clocking.clocks s.table.times stop s.instants) h.clocking_is h.instants_are)
+  pub instants_of : AreInstants (if_any model.equations (Periodic h.base.period h.base.start)) (h.base.start ∷ []) stop s.instants
+  instants_of = subst (λ table. AreInstants (if_any model.equations (Periodic h.base.period h.base.start)) table.times stop s.instants) h.base.table_is
+      (subst (λ clocking. AreInstants clocking.clocks s.table.times stop s.instants) h.base.clocking_is h.instants_are)
 
 -- up to a moment to which no tick fails, what is computed meets the model
 pub meets_before : (model : FlatModel) (counter resolution : ℕ) (stop : Ratio) (s : Setting) (n : ℕ) → IsOneClock model counter resolution → IsSettingOf model counter resolution stop s → n ≤ length s.instants → HasValues model n
     → Meets s (assignment_of model) n
 meets_before model counter resolution stop s n one h le has = subst (λ t. Meets t (assignment_of model) n) (same_setting model counter resolution stop s h)
-    (meets_up_to model h.period h.start s.instants one.names one.equations counter resolution stop h.clock (instants_of model counter resolution stop s h) n le has)
+    (meets_up_to model h.base.period h.base.start s.instants one.names one.equations counter resolution stop h.base.clock (instants_of model counter resolution stop s h) n le has)
 
 -- a run of which no tick fails meets the model to its last moment, and its rows are the trace
 pub whole_run : (model : FlatModel) (counter resolution : ℕ) (stop : Ratio) (s : Setting) → IsOneClock model counter resolution → IsSettingOf model counter resolution stop s
@@ -149,7 +149,7 @@ whole_run model counter resolution stop s one h none = record {
   meets = meets_before model counter resolution stop s (length s.instants) one h (omega arith)
       (subst (HasValues model) (let e : 0 + length s.instants ≡ length s.instants = omega arith in e) (none_failing model 0 (starts_of model.names) s.instants refl none));
   out_is = ap (λ r. header_text s.model.names ++ r)
-      (sym (ap (λ names. rows_text (columns_of names) (assignment_of model) 1 s.instants) (ap (λ m. m.names) h.model_is) ∙ rows_all model 0 (starts_of model.names) s.instants one.names one.equations refl none));
+      (sym (ap (λ names. rows_text (columns_of names) (assignment_of model) 1 s.instants) (ap (λ m. m.names) h.base.model_is) ∙ rows_all model 0 (starts_of model.names) s.instants one.names one.equations refl none));
   err_is = refl;
 }
 
@@ -160,5 +160,5 @@ pub rows_before : (model : FlatModel) (counter resolution : ℕ) (stop : Ratio) 
 rows_before model counter resolution stop s at one h fails =
     let tick = failing_tick model 0 (starts_of model.names) s.instants at refl fails in
     ap (λ r. header_text s.model.names ++ r)
-    (ap (λ names. rows_text (columns_of names) (assignment_of model) 1 (take (at.moment - 1) s.instants)) (ap (λ m. m.names) h.model_is)
+    (ap (λ names. rows_text (columns_of names) (assignment_of model) 1 (take (at.moment - 1) s.instants)) (ap (λ m. m.names) h.base.model_is)
     ∙ rows_until model 0 (starts_of model.names) s.instants at (at.moment - 1) one.names one.equations refl fails (omega (arith, tick.moment_is)))

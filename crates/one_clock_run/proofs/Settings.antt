@@ -11,7 +11,7 @@ use Rattle.flat_model.specs.Moments.{AreInstants, IsDue, IsRising, TicksAt}
 use Rattle.flat_model.specs.Plan.{IsPlanned, rows_within}
 use Rattle.flat_model.specs.Setting.{Setting}
 use Rattle.one_clock.specs.OneClock.{AreCounters}
-use Rattle.one_clock_run.specs.Setting.{IsClockOf, IsSettingOf, if_any, clocking_of, table_without_inputs}
+use Rattle.one_clock_run.specs.Setting.{IsClockOf, IsBaseOf, IsSettingOf, if_any, clocking_of, table_without_inputs}
 use Rattle.one_clock_run.specs.Computed.{HasTickCount, AreTicksFrom, AreTicksTo, AreRunInstants}
 
 -- a later tick of a clock lies later
@@ -153,15 +153,15 @@ setting_of model period start ts = record {
   instants = ts;
 }
 
+pub base_is : (model : FlatModel) (counter resolution : ℕ) (period start : Ratio) (ts : List Ratio) → IsClockOf counter resolution period start
+    → IsBaseOf model counter resolution (setting_of model period start ts)
+base_is model counter resolution period start ts clock =
+    record { period = period; start = start; clock = clock; model_is = refl; clocking_is = refl; table_is = refl }
+
 pub setting_is : (model : FlatModel) (counter resolution : ℕ) (period start stop : Ratio) (ts : List Ratio) → AreCounters counter resolution → IsClockOf counter resolution period start → AreRunInstants model.equations period start stop ts
     → IsSettingOf model counter resolution stop (setting_of model period start ts)
 setting_is model counter resolution period start stop ts counters clock h = record {
-  period = period;
-  start = start;
-  clock = clock;
-  model_is = refl;
-  clocking_is = refl;
-  table_is = refl;
+  base = base_is model counter resolution period start ts clock;
   instants_are = instants_are model counter resolution period start stop ts counters clock h;
 }
 

@@ -32,7 +32,7 @@ pub ticks_of : (one : OneClock) (stop period start : Ratio) (ticks : ℕ) → Is
 ticks_of one stop period start ticks clock count = record { period = period; start = start; clock = clock; count = count }
 
 pub plan_of : (one : OneClock) (stop period start : Ratio) (ticks : ℕ) (instants : List Ratio) → IsClockOf one.counter one.resolution period start → HasTickCount one.model.equations period start stop ticks
-    → ticks < 16777216 → AreRunInstants one.model.equations period start stop instants → IsPlan one stop instants
+    → ticks < 67108864 → AreRunInstants one.model.equations period start stop instants → IsPlan one stop instants
 plan_of one stop period start ticks instants clock count few are =
     record { ticks = ticks; has_ticks = record { period = period; start = start; clock = clock; count = count }; few = omega (arith, few); instants_are = are }
 

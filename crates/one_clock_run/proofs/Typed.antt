@@ -1,12 +1,14 @@
 -- A typed plain expression has a value of its type, or fails.
-use Rattle.std.proofs.Common.{◌≡◌, refl, ap, sym, subst, ◌∙◌, ℕ, suc, ◌+◌, ◌==◌, ◌&&◌, ◌⊎◌, inl, inr, Bool, true, false, if◌then◌else◌, List, [], ◌∷◌, map, length, Option, Some, None, ℤ, Result, Ok, Err, arith}
+use Rattle.std.proofs.Common.{◌≡◌, refl, ap, sym, subst, ◌∙◌, ℕ, suc, ◌+◌, ◌==◌, ◌&&◌, ◌⊎◌, inl, inr, Bool, true, false, if◌then◌else◌, List, [], ◌∷◌, map, length, Option, Some, None, ℤ, pos, negsuc, zero, int_le, neg_ℤ, ◌+ℤ◌, ◌-ℤ◌, ◌*ℤ◌, nat_lt, ◌^◌, is_ok, Result, Ok, Err, arith}
 use Rattle.std.specs.List.{list_all}
 use Rattle.std.proofs.lemmas.Bool.{false≢true}
 use Rattle.std.proofs.lemmas.Option.{same_Some, none-some}
 use Rattle.std.proofs.lemmas.Bool.Decides.{eqb_tells}
 use Rattle.sync_values.specs.declared.value.Value.{Value}
 use Rattle.sync_values.specs.declared.value.Value.TheVariants as value
+use Rattle.sync_values.specs.Arithmetic.{fitted, over, magnitude}
 use Rattle.sync_values.specs.declared.value.Fail.{Fail}
+use Rattle.sync_values.specs.declared.value.Fail.TheVariants.{Divide, TooLarge}
 use Rattle.sync_values.specs.declared.value.Rel.{Rel}
 use Rattle.sync_values.specs.declared.value.ChainOp.{ChainOp}
 use Rattle.sync_values.specs.declared.value.ChainOp.TheVariants.{Plus, Minus, Times, Over, And, Or}
@@ -24,7 +26,7 @@ use Rattle.flat_model.specs.Operators.{Answer, Is, Fails, Absent, settled, read,
 use Rattle.flat_model.specs.Functions.{called_with_one, called_with_two, called}
 use Rattle.flat_model.specs.Views.{Views}
 use Rattle.flat_model.specs.Meaning.{Meaning, meaning_of_level, seen_by, value_of}
-use Rattle.flat_model.specs.Typing.{Types, valued_type, type_of_value, is_type, typed_if, goes_with, type_of_operator, type_if_all, chain_type, relation_type, if_type, arity, call_type, type_of_level, type_of, plain_level, is_plain}
+use Rattle.flat_model.specs.Typing.{Types, valued_type, type_of_value, is_value, is_type, typed_if, goes_with, type_of_operator, type_if_all, chain_type, relation_type, if_type, arity, call_type, type_of_level, type_of, plain_level, is_plain}
 
 -- a value of the type, or a failure
 abbrev pub IsAnswerOf : NameKind → Answer → Type 0
@@ -75,14 +77,55 @@ same_number m n e = by_case (eqb_tells m n)
 
 -- ---- operators
 
-settled_of : (r : Result ℤ Fail) → IsAnswerOf kind.Integer (settled r)
-settled_of (Ok z) = tt
-settled_of (Err kind) = tt
+-- what fits is itself
+exact_if : (b : Bool) (a w : ℤ) → (if b then Ok a else Err TooLarge) ≡ Ok w → (if b then Ok a else Err TooLarge) ≡ Ok a
+exact_if true a w e = refl
+exact_if false a w e = absurd (clash TooLarge w e)
+  where
+    clash : (k : Fail) (z : ℤ) → ◌≡◌ {A = Result ℤ Fail} (Err k) (Ok z) → ⊥
+    clash k z e = cc
+
+exact : (a w : ℤ) → fitted a ≡ Ok w → fitted a ≡ Ok a
+exact (pos n) w e = exact_if (nat_lt n (2 ^ 63)) (pos n) w e
+exact (negsuc n) w e = exact_if (nat_lt n (2 ^ 63)) (negsuc n) w e
+
+-- what fits keeps fitting
+fits_if : (b : Bool) (a z : ℤ) → fitted a ≡ (if b then Ok a else Err TooLarge) → (if b then Ok a else Err TooLarge) ≡ Ok z → fitted z ≡ Ok z
+fits_if true a z is e = subst (λ w. fitted w ≡ Ok w) (same_Ok a z e) is
+  where
+    same_Ok : (a z : ℤ) → ◌≡◌ {A = Result ℤ Fail} (Ok a) (Ok z) → a ≡ z
+    same_Ok a z e = cc
+fits_if false a z is e = absurd (clash TooLarge z e)
+  where
+    clash : (k : Fail) (z : ℤ) → ◌≡◌ {A = Result ℤ Fail} (Err k) (Ok z) → ⊥
+    clash k z e = cc
+
+pub fitted_keeps : (a z : ℤ) → fitted a ≡ Ok z → fitted z ≡ Ok z
+fitted_keeps (pos n) z e = fits_if (nat_lt n (2 ^ 63)) (pos n) z refl e
+fitted_keeps (negsuc n) z e = fits_if (nat_lt n (2 ^ 63)) (negsuc n) z refl e
+
+over_keeps : (b exact z : ℤ) → over b exact ≡ Ok z → fitted z ≡ Ok z
+over_keeps (pos zero) exact z e = absurd (clash Divide z e)
+  where
+    clash : (k : Fail) (z : ℤ) → ◌≡◌ {A = Result ℤ Fail} (Err k) (Ok z) → ⊥
+    clash k z e = cc
+over_keeps (pos (suc n)) exact z e = fitted_keeps exact z e
+over_keeps (negsuc n) exact z e = fitted_keeps exact z e
+
+settled_if : (r : Result ℤ Fail) → ((z : ℤ) → r ≡ Ok z → fitted z ≡ Ok z) → IsAnswerOf kind.Integer (settled r)
+settled_if (Ok z) keeps = keeps z refl
+settled_if (Err kind) keeps = tt
+
+settled_of : (a : ℤ) → IsAnswerOf kind.Integer (settled (fitted a))
+settled_of a = settled_if (fitted a) (fitted_keeps a)
+
+settled_over : (b exact : ℤ) → IsAnswerOf kind.Integer (settled (over b exact))
+settled_over b exact = settled_if (over b exact) (over_keeps b exact)
 
 on_integers : (op : ChainOp) (a b : ℤ) → type_of_operator op ≡ Some kind.Integer → IsAnswerOf kind.Integer (applied op (value.Int a) (value.Int b))
-on_integers Plus a b e = settled_of _
-on_integers Minus a b e = settled_of _
-on_integers Times a b e = settled_of _
+on_integers Plus a b e = settled_of (a +ℤ b)
+on_integers Minus a b e = settled_of (a -ℤ b)
+on_integers Times a b e = settled_of (a *ℤ b)
 on_integers Over a b e = absurd (none-some kind.Integer e)
 on_integers And a b e = absurd cc
 on_integers Or a b e = absurd cc
@@ -193,7 +236,7 @@ chain_of type op ops [] is all long h = absurd (omega (arith, long))
 chain_of type op ops (part ∷ parts) is all long h = chained_of type part (op ∷ ops) parts h.0 (is, all) h.1
 
 negated_of : (a : Answer) → IsAnswerOf kind.Integer a → IsAnswerOf kind.Integer (negated a)
-negated_of (Is (value.Int z)) h = settled_of _
+negated_of (Is (value.Int z)) h = settled_of (neg_ℤ z)
 negated_of (Is (value.Bool b)) h = absurd h
 negated_of (Fails kind) h = tt
 negated_of Absent h = absurd h
@@ -233,20 +276,28 @@ chosen_of type (Fails q ∷ cs) bs other long h k l = tt
 chosen_of type (Absent ∷ cs) bs other long h k l = absurd h.0
 
 with_one : (function : Fun) (a : ℤ) → 1 ≡ arity function → IsAnswerOf kind.Integer (called_with_one function a)
-with_one Abs a e = settled_of _
+with_one Abs a e = settled_of (magnitude a)
 with_one Div a e = absurd (omega (arith, e))
 with_one Mod a e = absurd (omega (arith, e))
 with_one Rem a e = absurd (omega (arith, e))
 with_one Min a e = absurd (omega (arith, e))
 with_one Max a e = absurd (omega (arith, e))
 
-with_two : (function : Fun) (a b : ℤ) → 2 ≡ arity function → IsAnswerOf kind.Integer (called_with_two function a b)
-with_two Abs a b e = absurd (omega (arith, e))
-with_two Div a b e = settled_of _
-with_two Mod a b e = settled_of _
-with_two Rem a b e = settled_of _
-with_two Min a b e = tt
-with_two Max a b e = tt
+with_two : (function : Fun) (a b : ℤ) → 2 ≡ arity function → fitted a ≡ Ok a → fitted b ≡ Ok b → IsAnswerOf kind.Integer (called_with_two function a b)
+with_two Abs a b e h k = absurd (omega (arith, e))
+with_two Div a b e h k = settled_over b _
+with_two Mod a b e h k = settled_over b _
+with_two Rem a b e h k = settled_over b _
+with_two Min a b e h k = either (int_le a b)
+  where
+    either : (c : Bool) → fitted (if c then a else b) ≡ Ok (if c then a else b)
+    either true = h
+    either false = k
+with_two Max a b e h k = either (int_le a b)
+  where
+    either : (c : Bool) → fitted (if c then b else a) ≡ Ok (if c then b else a)
+    either true = k
+    either false = h
 
 arity_within : (function : Fun) (n : ℕ) → n ≡ arity function → ((n ≡ 1) ⊎ (n ≡ 2))
 arity_within Abs n e = inl e
@@ -259,7 +310,7 @@ arity_within Max n e = inr e
 called_of : (function : Fun) (parts : List Answer) → length parts ≡ arity function → AllOf kind.Integer parts → IsAnswerOf kind.Integer (called function parts)
 called_of function [] long h = elim (arity_within function 0 long) [ inl e ↦ absurd (omega (arith, e)) | inr e ↦ absurd (omega (arith, e)) ]
 called_of function (Is (value.Int a) ∷ []) long h = with_one function a (let one : 1 ≡ suc 0 = omega arith in one ∙ long)
-called_of function (Is (value.Int a) ∷ (Is (value.Int b) ∷ [])) long h = with_two function a b (let two : 2 ≡ suc (suc 0) = omega arith in two ∙ long)
+called_of function (Is (value.Int a) ∷ (Is (value.Int b) ∷ [])) long h = with_two function a b (let two : 2 ≡ suc (suc 0) = omega arith in two ∙ long) h.0 h.1.0
 called_of function (Is (value.Int a) ∷ (Is (value.Int b) ∷ (c ∷ rest))) long h = elim (arity_within function _ long) [ inl e ↦ absurd (omega (arith, e)) | inr e ↦ absurd (omega (arith, e)) ]
 called_of function (Is (value.Int a) ∷ (Is (value.Bool b) ∷ rest)) long h = absurd h.1.0
 called_of function (Is (value.Int a) ∷ (Fails q ∷ rest)) long h = tt
@@ -325,9 +376,13 @@ module _ (types : Types) (views : Views) (seen : AreTypedViews types views) wher
       subst (λ u. IsAnswerOf u (called function (seen_by views (map value_of es)))) of.1
       (called_of function _ (length_seen es ∙ same_number _ _ two.0) (all_of kind.Integer es sound plain two.1))
 
-  own_type : (v : Value) → IsOfKind (type_of_value v) v
-  own_type (value.Int z) = tt
-  own_type (value.Bool b) = tt
+  own_type : (v : Value) → is_value v ≡ true → IsOfKind (type_of_value v) v
+  own_type (value.Int z) is = by_result (fitted z) refl is
+    where
+      by_result : (r : Result ℤ Fail) → fitted z ≡ r → is_ok r ≡ true → fitted z ≡ Ok z
+      by_result (Ok w) e t = exact z w e
+      by_result (Err k) e t = absurd (false≢true t)
+  own_type (value.Bool b) is = tt
 
   module _ {A B : Type 0} (f : A → ClockExpr) (g : B → Expr) (all : (b : B) → Sound (g b)) where
     parts_sound : (ps : List B) → AllSound (map g ps)
@@ -338,7 +393,7 @@ module _ (types : Types) (views : Views) (seen : AreTypedViews types views) wher
         → plain_level (map-Expr ClockExpr Expr (Unit {0}) Bool (λ _. tt) is_plain (map-Expr A B ClockExpr Expr f g y)) ≡ true
         → type_of_level types (map-Expr ClockExpr Expr (Unit {0}) (Option NameKind) (λ _. tt) (type_of types) (map-Expr A B ClockExpr Expr f g y)) ≡ Some type
         → IsAnswerOf type (meaning_of_level (map-Expr ClockExpr Expr (Unit {0}) Meaning (λ _. tt) value_of (map-Expr A B ClockExpr Expr f g y)) views)
-    level_sound (Expr-F.Const v) type plain typed = subst (λ t. IsOfKind t v) (same_Some _ type typed) (own_type v)
+    level_sound (Expr-F.Const v) type plain typed = let of = typed_some (is_value v) (type_of_value v) type typed in subst (λ t. IsOfKind t v) of.1 (own_type v of.0)
     level_sound (Expr-F.Read x) type plain typed = seen.now x type typed
     level_sound (Expr-F.Chain ps ops) type plain typed = chain_sound type (map g ps) ops (parts_sound ps) plain typed
     level_sound (Expr-F.Relation rel a b) type plain typed =

@@ -1,7 +1,6 @@
 pub mod Computed
 pub mod Ends
 pub mod Lines
-pub mod Runs
 pub mod Setting
 pub mod Steps
 pub mod Traces

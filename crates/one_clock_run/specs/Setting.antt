@@ -34,12 +34,16 @@ clocking_of model period start = record {
 abbrev pub table_without_inputs : Ratio → Table
 table_without_inputs zero = record { times = zero ∷ []; columns = []; cells = [] }
 
--- what a run of the model up to a stop is over
-pub record IsSettingOf (model : FlatModel) (counter resolution : ℕ) (stop : Ratio) (s : Setting) : Type 0 where
+-- what a run of the model is over, whatever its instants
+pub record IsBaseOf (model : FlatModel) (counter resolution : ℕ) (s : Setting) : Type 0 where
   pub period : Ratio
   pub start : Ratio
   pub clock : IsClockOf counter resolution period start
   pub model_is : s.model ≡ model
   pub clocking_is : s.clocking ≡ clocking_of model period start
   pub table_is : s.table ≡ table_without_inputs start
+
+-- what a run of the model up to a stop is over
+pub record IsSettingOf (model : FlatModel) (counter resolution : ℕ) (stop : Ratio) (s : Setting) : Type 0 where
+  pub base : IsBaseOf model counter resolution s
   pub instants_are : AreInstants s.clocking.clocks s.table.times stop s.instants

@@ -4,6 +4,7 @@ use Rattle.rational_time.specs.declared.ratio.Ratio.{Ratio}
 use Rattle.outside_io.specs.Texts.{grown, GrewByPrefix}
 use Rattle.sync_values.specs.declared.value.Value.{Value}
 use Rattle.flat_model.specs.declared.model.FlatModel.{FlatModel}
+use Rattle.flat_model.specs.Plan.{plan_limit}
 use Rattle.flat_model.specs.Trace.{header_text}
 use Rattle.one_clock.specs.declared.form.OneClock.{OneClock}
 use Rattle.one_clock_run.specs.declared.run_trace.RunStop.{RunStop}
@@ -13,10 +14,6 @@ use Rattle.one_clock_run.specs.Ends.{FailsAt}
 use Rattle.one_clock_run.specs.Lines.{FitsLines}
 use Rattle.one_clock_run.specs.Setting.{IsClockOf}
 use Rattle.one_clock_run.specs.Values.{AreFirstValues}
-
--- the most ticks and rows of a run
-abbrev pub plan_limit : ℕ
-plan_limit = 16777216
 
 -- the clock of a model and how many ticks it has up to a stop
 pub record HasTicks (one : OneClock) (stop : Ratio) (ticks : ℕ) : Type 0 where

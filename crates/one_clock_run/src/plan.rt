@@ -55,7 +55,7 @@ pub fn run_instants(
 ) -> Result<Vec<Ratio>, AllocError>
     requires zero { clock.start.num ≡ 0 }
     requires period { ArePartsBelow (2 ^ 31) clock.period }
-    requires few { count < 2 ^ 25 }
+    requires few { count < 2 ^ 26 }
     requires ticks { HasTickCount equations.now clock.period clock.start stop count }
     ensures { IfOk result (λ instants. AreRunInstants equations.now clock.period clock.start stop instants.items) }
 {
@@ -71,7 +71,7 @@ pub fn run_instants(
 fn first_ticks(alloc: Global, clock: TickClock, count: u64) -> Result<Vec<Ratio>, AllocError>
     requires zero { clock.start.num ≡ 0 }
     requires period { ArePartsBelow (2 ^ 31) clock.period }
-    requires few { count < 2 ^ 25 }
+    requires few { count < 2 ^ 26 }
     ensures ticks { IfOk result (λ instants. AreTicksFrom clock.period clock.start 0 instants.items) }
     ensures count { IfOk result (λ instants. length instants.items ≡ count) }
 {

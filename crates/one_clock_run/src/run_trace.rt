@@ -21,12 +21,12 @@ use std::alloc::{AllocError, Global};
 use sync_values::Fail;
 
 /// The most rows and ticks of a run.
-const PLAN_LIMIT: u128 = 16_777_216;
+const PLAN_LIMIT: u128 = 67_108_864;
 
 /// Why a run did not put its whole trace.
 #[derive(Clone, Copy)]
 pub enum RunStop {
-    /// The rows of the inputs and the ticks are more than 16,777,216 together. Nothing was put.
+    /// The rows of the inputs and the ticks are more than 67,108,864 together. Nothing was put.
     TooLong,
     /// Memory was refused. Nothing was put.
     NoMemory,
@@ -59,7 +59,7 @@ fn take_memory(
     requires names { AreOwnNames model.now.names }
     requires zero { clock.start.num ≡ 0 }
     requires period { ArePartsBelow (2 ^ 31) clock.period }
-    requires few { ticks < 2 ^ 25 }
+    requires few { ticks < 2 ^ 26 }
     requires ticks { HasTickCount model.now.equations clock.period clock.start stop ticks }
     ensures { IfOk result (λ m. IsMemory model.now clock.period clock.start stop m.instants.items m.part.latest.items m.part.before.items (vec_capacity m.line)) }
 {

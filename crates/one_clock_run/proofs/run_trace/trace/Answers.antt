@@ -24,7 +24,7 @@ returns-in-Ok-clause-traces g c =
     let one = c.args.model.now in
     let ts = c.in-Ok.memory.instants.items in
     let count : HasTickCount one.model.equations c.clock_of-clock.result.period c.clock_of-clock.result.start c.args.stop c.tick_count-ticks.result = rw c.as_slice.ensures at c.tick_count-ticks.ensures in
-    let few : c.tick_count-ticks.result < 16777216 = search (rules, c.if-ticks-ge-PLAN_LIMIT.false) in
+    let few : c.tick_count-ticks.result < 67108864 = search (rules, c.if-ticks-ge-PLAN_LIMIT.false) in
     let plan = plan_of one c.args.stop c.clock_of-clock.result.period c.clock_of-clock.result.start c.tick_count-ticks.result ts c.clock_of-clock.ensures.clock count few c.in-Ok.ensures.instants_are in
     traced one c.args.stop ts (g.O.Sink.text c.args.out.now) (g.O.Sink.text c.put_trace.new.out) c.put_trace.result plan (rw c.in-Ok.ensures.values_are.starts at c.put_trace.ensures.ends)
 
