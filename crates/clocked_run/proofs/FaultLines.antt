@@ -5,7 +5,7 @@ use Rattle.rational_time.specs.declared.ratio.Ratio.{Ratio}
 use Rattle.rational_time.specs.Fraction.{instant_text}
 use Rattle.flat_model.specs.declared.clock.Moment.TheVariants.{At}
 use Rattle.flat_model.specs.declared.fault.FaultPlace.TheVariants.{Equation}
-use Rattle.one_clock_run.specs.Runs.{fault_line, kind_text}
+use Rattle.flat_model.specs.Runs.{fault_line, kind_text}
 
 pub pieces_of_line : (kind : Fail) (at : Ratio) (i : ℕ)
     → codes "fault " ++ kind_text kind ++ codes " at " ++ instant_text at ++ codes " in equation " ++ decimal (i + 1) ++ codes "\n" ≡ fault_line (At at) (Equation i) kind

@@ -8,15 +8,16 @@ use Rattle.outside_io.specs.Texts.{grown}
 use Rattle.outside_io.proofs.Growth.{grown-nil}
 use Rattle.flat_model.specs.declared.clock.Moment.TheVariants.{At}
 use Rattle.flat_model.specs.declared.fault.FaultPlace.TheVariants.{Equation}
+use Rattle.flat_model.specs.Plan.{plan_limit, HasPlan}
 use Rattle.flat_model.specs.Setting.{Setting}
 use Rattle.one_clock.specs.OneClock.{IsOneClock}
 use Rattle.one_clock.specs.declared.form.OneClock.{OneClock}
-use Rattle.one_clock_run.specs.Runs.{fault_line}
+use Rattle.flat_model.specs.Runs.{fault_line}
 use Rattle.one_clock_run.specs.Computed.{FailingAt, first_failing, starts_of}
 use Rattle.one_clock_run.specs.Traces.{HasTicks, IsPlan, run_text, TracesAs}
 use Rattle.one_clock_run.specs.declared.run_trace.RunStop.{RunStop}
 use Rattle.one_clock_run.specs.declared.run_trace.RunStop.TheVariants as run
-use Rattle.one_clock_run.proofs.Settings.{setting_of, setting_is, planned}
+use Rattle.one_clock_run.proofs.Settings.{setting_of, setting_is, base_is, planned}
 use Rattle.one_clock_run.proofs.RunMeets.{whole_run}
 use Rattle.one_clock_run.proofs.RunFaults.{faulted_at, failing_moment}
 use Rattle.clocked_run.specs.declared.code.Code.TheVariants.{L0}
@@ -25,7 +26,7 @@ use Rattle.clocked_run.specs.declared.status.Status.{Status}
 use Rattle.clocked_run.specs.declared.status.Status.TheVariants as status
 use Rattle.clocked_run.specs.declared.stop.Stop.{Stop}
 use Rattle.clocked_run.specs.declared.stop.Stop.TheVariants.{Usage, Refused, Faulted, ReadFault, NoMemory, OutFailed}
-use Rattle.clocked_run.specs.Answer.{IsRead, AnswersModel, Rule, TooLong, Lexical, Syntax, NotBuilt, TooMany, BreaksText, line_of_rule, model_limit}
+use Rattle.clocked_run.specs.Answer.{IsRead, AnswersModel, Rule, TooLong, Lexical, Syntax, NotBuilt, TooMany, BreaksText, BreaksFirst, line_of_rule, model_limit}
 use Rattle.clocked_run.specs.Command.{IsCommand, IsUsage}
 use Rattle.clocked_run.specs.Ends.{IsRight, Written, written}
 use Rattle.clocked_run.specs.Lines.{usage_line}
@@ -34,17 +35,13 @@ use Rattle.clocked_run.specs.Refusals.{refusal_line}
 use Rattle.clocked_run.specs.Stops.{IsShort, end_of}
 
 -- what a model is read as
-read_as : (bytes : List ℕ) (stop : Ratio) (one : OneClock) (ticks : ℕ) → StandsFor bytes one.model one.counter one.resolution → HasTicks one stop ticks
-    → IsRead bytes stop one.model one.counter one.resolution (1 + ticks)
-read_as bytes stop one ticks (tree, has_tree, form) has = record {
-  tree = tree;
-  has_tree = has_tree;
-  form = form;
-  period = has.period;
-  start = has.start;
-  clock = has.clock;
-  planned = planned one.model one.counter one.resolution has.period has.start stop ticks form.one_clock.clock has.clock has.count;
-}
+read_as : (bytes : List ℕ) (one : OneClock) → StandsFor bytes one.model one.counter one.resolution → IsRead bytes one.model one.counter one.resolution
+read_as bytes one (tree, has_tree, form) = record { tree = tree; has_tree = has_tree; form = form }
+
+-- its plan, whatever the instants
+plan_of : (bytes : List ℕ) (stop : Ratio) (one : OneClock) (ticks : ℕ) (ts : List Ratio) (stands : StandsFor bytes one.model one.counter one.resolution) (has : HasTicks one stop ticks)
+    → HasPlan (setting_of one.model has.period has.start ts) stop (1 + ticks)
+plan_of bytes stop one ticks ts stands has = planned one.model one.counter one.resolution has.period has.start stop ticks stands.2.one_clock.clock has.clock has.count
 
 -- a run of what a text stands for
 module _ (bytes : List ℕ) (stop : Ratio) (one : OneClock) (stands : StandsFor bytes one.model one.counter one.resolution) (ts : List Ratio) (plan : IsPlan one stop ts) where
@@ -59,7 +56,7 @@ module _ (bytes : List ℕ) (stop : Ratio) (one : OneClock) (stands : StandsFor 
   done_right none =
       let is = setting_is one.model one.counter one.resolution plan.has_ticks.period plan.has_ticks.start stop ts is_one.clock plan.has_ticks.clock plan.instants_are in (
         s,
-        (one.model, one.counter, one.resolution, 1 + plan.ticks, read_as bytes stop one plan.ticks stands plan.has_ticks, plan.few, is),
+        (one.model, one.counter, one.resolution, 1 + plan.ticks, read_as bytes one stands, is, plan_of bytes stop one plan.ticks ts stands plan.has_ticks, plan.few),
         whole_run one.model one.counter one.resolution stop s is_one is none,
       )
 
@@ -69,7 +66,7 @@ module _ (bytes : List ℕ) (stop : Ratio) (one : OneClock) (stands : StandsFor 
   faulted_right f t fails at =
       let is = setting_is one.model one.counter one.resolution plan.has_ticks.period plan.has_ticks.start stop ts is_one.clock plan.has_ticks.clock plan.instants_are in (
         s,
-        (one.model, one.counter, one.resolution, 1 + plan.ticks, read_as bytes stop one plan.ticks stands plan.has_ticks, plan.few, is),
+        (one.model, one.counter, one.resolution, 1 + plan.ticks, read_as bytes one stands, is, plan_of bytes stop one plan.ticks ts stands plan.has_ticks, plan.few),
         faulted_at one.model one.counter one.resolution stop s f t is_one is fails at,
       )
 
@@ -129,13 +126,26 @@ module _ (bytes : List ℕ) (stop : Ratio) where
     unbuilt_answered (Faulted kind at equation) old count cause = absurd cause
     unbuilt_answered OutFailed old count cause = absurd cause
 
+  too_many : (one : OneClock) (stands : StandsFor bytes one.model one.counter one.resolution) (ticks : ℕ) (has : HasTicks one stop ticks) → plan_limit < 1 + ticks → BreaksFirst bytes stop TooMany
+  too_many one stands ticks has over = (
+    one.model,
+    one.counter,
+    one.resolution,
+    setting_of one.model has.period has.start [],
+    1 + ticks,
+    read_as bytes one stands,
+    base_is one.model one.counter one.resolution has.period has.start [] has.clock,
+    plan_of bytes stop one ticks [] stands has,
+    over,
+  )
+
   module _ (one : OneClock) (stands : StandsFor bytes one.model one.counter one.resolution) where
     pub run_answered : (r : Result (Unit {0}) RunStop) (out : Written) → TracesAs one stop r out.old out.new → (r ≡ Err run.OutFailed → Rose out.before out.after) → out.before ≤ out.after
         → Answered (AnswersText bytes stop) out (end_of r)
     run_answered (Ok x) out (ts, plan, none, grew) rose counts =
         record { answers = (run_text one.model ts, done_right bytes stop one stands ts plan none, grew); printable = tt; failed = λ e. absurd cc; counts = counts }
     run_answered (Err run.TooLong) out (ticks, has, over, same) rose counts = record {
-      answers = ([], (TooMany, (one.model, one.counter, one.resolution, 1 + ticks, read_as bytes stop one ticks stands has, over), refl, refl), same ∙ stays out.old);
+      answers = ([], (TooMany, too_many one stands ticks has over, refl, refl), same ∙ stays out.old);
       printable = tt;
       failed = λ e. absurd cc;
       counts = counts;

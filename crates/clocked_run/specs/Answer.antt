@@ -8,14 +8,13 @@ use Rattle.mo_parser.specs.declared.tree.Tree.{Tree}
 use Rattle.mo_parser.specs.declared.syntax.SyntaxCode.{SyntaxCode}
 use Rattle.mo_parser.specs.grammar.Faults.{Spells, IsFault}
 use Rattle.mo_parser.specs.grammar.Places.{head}
-use Rattle.flat_model.specs.declared.clock.Clock.TheVariants.{Periodic}
 use Rattle.flat_model.specs.declared.model.FlatModel.{FlatModel}
 use Rattle.flat_model.specs.declared.place.Place.TheVariants.{Model, Plan}
 use Rattle.flat_model.specs.Setting.{Setting}
-use Rattle.flat_model.specs.Plan.{IsPlanned}
+use Rattle.flat_model.specs.Plan.{plan_limit, HasPlan}
 use Rattle.one_clock.specs.Form.{IsForm}
-use Rattle.one_clock_run.specs.Setting.{IsClockOf, IsSettingOf, if_any}
-use Rattle.one_clock_run.specs.Runs.{IsWholeRun, IsFaultedRun}
+use Rattle.one_clock_run.specs.Setting.{IsBaseOf, IsSettingOf}
+use Rattle.flat_model.specs.Runs.{IsWholeRun, IsFaultedRun}
 use Rattle.clocked_run.specs.declared.code.Code.TheVariants.{L0, B0, P1}
 use Rattle.clocked_run.specs.declared.status.Status.{Status}
 use Rattle.clocked_run.specs.declared.status.Status.TheVariants.{Done, Refused, Faulted, Usage}
@@ -26,10 +25,6 @@ use Rattle.clocked_run.specs.Refusals.{refusal_line, code_of_lexical, code_of_sy
 abbrev pub model_limit : ℕ
 model_limit = 1048576
 
--- the most ticks and rows of a run
-abbrev pub plan_limit : ℕ
-plan_limit = 16777216
-
 -- the bytes are the text of a tree: they are not too many, and the tokens that belong to them spell it
 pub record HasTree (bytes : List ℕ) (tree : Tree) : Type 0 where
   pub few_bytes : length bytes ≤ model_limit
@@ -37,15 +32,11 @@ pub record HasTree (bytes : List ℕ) (tree : Tree) : Type 0 where
   pub belong : AreTokens bytes tokens
   pub spelled : Spells bytes 64 tree tokens
 
--- what is read of a model that breaks no rule of its text: the model of one clock, and how many rows and ticks a run up to the stop has
-pub record IsRead (bytes : List ℕ) (stop : Ratio) (model : FlatModel) (counter resolution count : ℕ) : Type 0 where
+-- the bytes are the text of a model of one clock
+pub record IsRead (bytes : List ℕ) (model : FlatModel) (counter resolution : ℕ) : Type 0 where
   pub tree : Tree
   pub has_tree : HasTree bytes tree
   pub form : IsForm bytes tree model counter resolution
-  pub period : Ratio
-  pub start : Ratio
-  pub clock : IsClockOf counter resolution period start
-  pub planned : IsPlanned (if_any model.equations (Periodic period start)) (start ∷ []) stop count
 
 -- a rule, with the place of what breaks it
 pub data Rule : Type 0 where
@@ -69,7 +60,8 @@ BreaksFirst bytes stop (Lexical code at) = (length bytes ≤ model_limit) × Bre
 BreaksFirst bytes stop (Syntax code at) = (length bytes ≤ model_limit) × BreaksText bytes (Syntax code at)
 BreaksFirst bytes stop NotBuilt = BreaksText bytes NotBuilt
 BreaksFirst bytes stop TooMany =
-    (model : FlatModel) × (counter : ℕ) × (resolution : ℕ) × (count : ℕ) × IsRead bytes stop model counter resolution count × (plan_limit < count)
+    (model : FlatModel) × (counter : ℕ) × (resolution : ℕ) × (s : Setting) × (count : ℕ) × IsRead bytes model counter resolution
+    × IsBaseOf model counter resolution s × HasPlan s stop count × (plan_limit < count)
 
 -- the line of a rule
 abbrev pub line_of_rule : List ℕ → Rule → List ℕ
@@ -82,8 +74,8 @@ line_of_rule bytes TooMany = refusal_line P1 Plan
 -- no rule is broken, and a run is over this
 abbrev pub IsAccepted : List ℕ → Ratio → Setting → Type 0
 IsAccepted bytes stop s =
-    (model : FlatModel) × (counter : ℕ) × (resolution : ℕ) × (count : ℕ) × IsRead bytes stop model counter resolution count × (count ≤ plan_limit)
-    × IsSettingOf model counter resolution stop s
+    (model : FlatModel) × (counter : ℕ) × (resolution : ℕ) × (count : ℕ) × IsRead bytes model counter resolution
+    × IsSettingOf model counter resolution stop s × HasPlan s stop count × (count ≤ plan_limit)
 
 -- the answer of a model's bytes up to a stop
 abbrev pub AnswersModel : List ℕ → Ratio → Status → List ℕ → List ℕ → Type 0

@@ -12,7 +12,7 @@ use Rattle.flat_model.specs.declared.place.Place.{Place}
 use Rattle.flat_model.specs.declared.place.Place.TheVariants as place
 use Rattle.one_clock_run.specs.declared.run_trace.RunStop.{RunStop}
 use Rattle.one_clock_run.specs.declared.run_trace.RunStop.TheVariants as run
-use Rattle.one_clock_run.specs.Runs.{fault_line}
+use Rattle.flat_model.specs.Runs.{fault_line}
 use Rattle.clocked_run.specs.declared.code.Code.TheVariants.{P1}
 use Rattle.clocked_run.specs.Refusals.{refusal_line}
 use Rattle.clocked_run.specs.Lines.{usage_line}

@@ -2,7 +2,7 @@ ghost use Rattle.std.specs.Prelude.{◌≡◌, ◌+◌, ◌≤◌, ◌<◌, ◌^
 ghost use Rattle.rational_time.specs.Fraction.{instant_text};
 ghost use Rattle.flat_model.specs.declared.clock.Moment.TheVariants.{At};
 ghost use Rattle.flat_model.specs.declared.fault.FaultPlace.TheVariants.{Equation};
-ghost use Rattle.one_clock_run.specs.Runs.{fault_line, kind_text};
+ghost use Rattle.flat_model.specs.Runs.{fault_line, kind_text};
 ghost use Rattle.clocked_run.specs.Refusals.{code_text, place_text, refusal_line};
 ghost use Rattle.clocked_run.specs.Stops.{IsShort};
 
