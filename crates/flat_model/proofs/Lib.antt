@@ -10,6 +10,7 @@ pub mod InstantsLeft
 pub mod InstantsOnce
 pub mod Levels
 pub mod Links
+pub mod MeaningLaws
 pub mod Nodes
 pub mod OneAnswer
 pub mod OneSolution

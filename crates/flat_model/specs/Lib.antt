@@ -10,6 +10,7 @@ pub mod Given
 pub mod Intervals
 pub mod Laws
 pub mod Meaning
+pub mod MeaningLaws
 pub mod Meets
 pub mod Models
 pub mod Moments
