@@ -20,9 +20,9 @@ others m (suc x) h = refl
 
 pub met : row.IsMet
 met zero le = met_at row.setting row.values 0 ((tt, refl), tt) (others 0) tt (tt, tt)
-met (suc zero) le = met_at row.setting row.values 1 ((tt, (value.Int (pos 1), refl, tt)), tt) (others 1) tt ((value.Int (pos 1), simp values, simp values), tt)
-met (suc (suc zero)) le = met_at row.setting row.values 2 ((tt, (value.Int (pos 2), refl, tt)), tt) (others 2) tt ((value.Int (pos 2), simp values, simp values), tt)
-met (suc (suc (suc zero))) le = met_at row.setting row.values 3 ((tt, (value.Int (pos 3), refl, tt)), tt) (others 3) tt ((value.Int (pos 3), simp values, simp values), tt)
+met (suc zero) le = met_at row.setting row.values 1 ((tt, (value.Int (pos 1), refl, refl)), tt) (others 1) tt ((value.Int (pos 1), simp values, simp values), tt)
+met (suc (suc zero)) le = met_at row.setting row.values 2 ((tt, (value.Int (pos 2), refl, refl)), tt) (others 2) tt ((value.Int (pos 2), simp values, simp values), tt)
+met (suc (suc (suc zero))) le = met_at row.setting row.values 3 ((tt, (value.Int (pos 3), refl, refl)), tt) (others 3) tt ((value.Int (pos 3), simp values, simp values), tt)
 met (suc (suc (suc (suc m)))) le = absurd (omega arith)
 
 -- an instant up to 1 is one of the first three ticks

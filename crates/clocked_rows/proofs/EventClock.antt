@@ -9,6 +9,7 @@ use Rattle.flat_model.specs.Assignment.{Assignment}
 use Rattle.flat_model.specs.Setting.{name_ticks}
 use Rattle.flat_model.specs.Meets.{MeetsAt, HasValueAtTicks}
 use Rattle.flat_model.specs.Given.{with_value}
+use Rattle.flat_model.specs.Plan.{rows_within}
 use Rattle.flat_model.proofs.Values.{values}
 use Rattle.clocked_rows.specs.Instants.{whole}
 use Rattle.clocked_rows.specs.EventClock as row
@@ -25,35 +26,35 @@ others m (suc (suc zero)) h = absurd cc
 others m (suc (suc (suc x))) h = refl
 
 initially : MeetsAt row.setting row.values 0
-initially = met_at row.setting row.values 0 ((refl, (value.Int (pos 1), refl, tt)), ((tt, refl), ((tt, refl), tt))) (others 0) ((false, simp values), tt) (tt, (tt, tt))
+initially = met_at row.setting row.values 0 ((refl, (value.Int (pos 1), refl, refl)), ((tt, refl), ((tt, refl), tt))) (others 0) ((false, simp values), tt) (tt, (tt, tt))
 
 at_zero : MeetsAt row.setting row.values 1
 at_zero = met_at row.setting row.values 1
-    ((refl, (value.Int (pos 1), refl, tt)), (name_at row.setting row.values 1 1 row.n false (simp values) tt refl, (name_at row.setting row.values 1 2 row.h false (simp values) tt refl, tt)))
+    ((refl, (value.Int (pos 1), refl, refl)), (name_at row.setting row.values 1 1 row.n false (simp values) tt refl, (name_at row.setting row.values 1 2 row.h false (simp values) tt refl, tt)))
     (others 1) ((false, simp values), tt)
     (equation_at row.setting row.values 1 0 row.counting false (simp values) tt, (equation_at row.setting row.values 1 1 row.halving false (simp values) tt, tt))
 
 at_one : MeetsAt row.setting row.values 2
 at_one = met_at row.setting row.values 2
-    ((refl, (value.Int (pos 5), refl, tt)), (name_at row.setting row.values 2 1 row.n true (simp values) tt (value.Int (pos 1), refl, tt), (name_at row.setting row.values 2 2 row.h true (simp values) tt (value.Int (pos 1), refl, tt), tt)))
+    ((refl, (value.Int (pos 5), refl, refl)), (name_at row.setting row.values 2 1 row.n true (simp values) tt (value.Int (pos 1), refl, refl), (name_at row.setting row.values 2 2 row.h true (simp values) tt (value.Int (pos 1), refl, refl), tt)))
     (others 2) ((true, simp values), tt)
     (equation_at row.setting row.values 2 0 row.counting true (simp values) (value.Int (pos 1), simp values, simp values), (equation_at row.setting row.values 2 1 row.halving true (simp values) (value.Int (pos 1), simp values, simp values), tt))
 
 at_two : MeetsAt row.setting row.values 3
 at_two = met_at row.setting row.values 3
-    ((refl, (value.Int (pos 6), refl, tt)), (name_at row.setting row.values 3 1 row.n false (simp values) tt refl, (name_at row.setting row.values 3 2 row.h false (simp values) tt refl, tt)))
+    ((refl, (value.Int (pos 6), refl, refl)), (name_at row.setting row.values 3 1 row.n false (simp values) tt refl, (name_at row.setting row.values 3 2 row.h false (simp values) tt refl, tt)))
     (others 3) ((true, simp values), tt)
     (equation_at row.setting row.values 3 0 row.counting false (simp values) tt, (equation_at row.setting row.values 3 1 row.halving false (simp values) tt, tt))
 
 at_three : MeetsAt row.setting row.values 4
 at_three = met_at row.setting row.values 4
-    ((refl, (value.Int (pos 0), refl, tt)), (name_at row.setting row.values 4 1 row.n false (simp values) tt refl, (name_at row.setting row.values 4 2 row.h false (simp values) tt refl, tt)))
+    ((refl, (value.Int (pos 0), refl, refl)), (name_at row.setting row.values 4 1 row.n false (simp values) tt refl, (name_at row.setting row.values 4 2 row.h false (simp values) tt refl, tt)))
     (others 4) ((false, simp values), tt)
     (equation_at row.setting row.values 4 0 row.counting false (simp values) tt, (equation_at row.setting row.values 4 1 row.halving false (simp values) tt, tt))
 
 at_four : MeetsAt row.setting row.values 5
 at_four = met_at row.setting row.values 5
-    ((refl, (value.Int (pos 9), refl, tt)), (name_at row.setting row.values 5 1 row.n true (simp values) tt (value.Int (pos 2), refl, tt), (name_at row.setting row.values 5 2 row.h false (simp values) tt refl, tt)))
+    ((refl, (value.Int (pos 9), refl, refl)), (name_at row.setting row.values 5 1 row.n true (simp values) tt (value.Int (pos 2), refl, refl), (name_at row.setting row.values 5 2 row.h false (simp values) tt refl, tt)))
     (others 5) ((true, simp values), tt)
     (equation_at row.setting row.values 5 0 row.counting true (simp values) (value.Int (pos 2), simp values, simp values), (equation_at row.setting row.values 5 1 row.halving false (simp values) tt, tt))
 
@@ -86,3 +87,12 @@ still = simp values
 
 pub other_refused : row.IsOtherRefused
 other_refused h = let e : HasValueAtTicks kind.Integer false (other 1 3) = subst (λ z. HasValueAtTicks kind.Integer z (other 1 3)) still (h.names 1 row.n refl) in absurd cc
+
+five_rows : rows_within row.setting.table.times (whole 4) ≡ 5
+five_rows = refl
+
+pub count : row.HasCount
+count n = (
+  λ plan. let (ticks, (first, others, one, (second, rest, two, none, more), sum), all) = plan in omega (arith, one, two, none, more, sum, all, five_rows),
+  λ is. (10, (5, 5, refl, (5, 0, refl, refl, refl), refl), is),
+)

@@ -29,10 +29,10 @@ others m (suc (suc x)) h = refl
 pub met : row.IsMet
 met zero le = met_at row.setting row.values 0 ((tt, refl), ((tt, refl), tt)) (others 0) tt (tt, (tt, tt))
 met (suc zero) le = met_at row.setting row.values 1
-    ((tt, (value.Int (pos 1500), refl, tt)), ((tt, (value.Bool true, refl, tt)), tt)) (others 1) tt
+    ((tt, (value.Int (pos 1500), refl, refl)), ((tt, (value.Bool true, refl, tt)), tt)) (others 1) tt
     ((value.Int (pos 1500), simp values, simp values), ((value.Bool true, simp values, simp values), tt))
 met (suc (suc zero)) le = met_at row.setting row.values 2
-    ((tt, (value.Int (pos 1500), refl, tt)), ((tt, (value.Bool false, refl, tt)), tt)) (others 2) tt
+    ((tt, (value.Int (pos 1500), refl, refl)), ((tt, (value.Bool false, refl, tt)), tt)) (others 2) tt
     ((value.Int (pos 1500), simp values, simp values), ((value.Bool false, simp values, simp values), tt))
 met (suc (suc (suc m))) le = absurd (omega arith)
 

@@ -1,9 +1,17 @@
 pub mod Counter
+pub mod Counts
 pub mod Each
 pub mod EventClock
+pub mod FreeName
+pub mod HeldFault
 pub mod Interval
 pub mod Listed
 pub mod NoClock
+pub mod NoNumber
 pub mod Overflow
 pub mod Sampling
 pub mod ShiftAndHold
+pub mod ShiftedEvent
+pub mod TwoSites
+pub mod Undone
+pub mod UnknownClock

@@ -31,16 +31,16 @@ pub met : row.IsMet
 met zero le = met_at row.setting row.values 0
     ((tt, refl), ((tt, refl), tt)) (others 0) tt (tt, (tt, tt))
 met (suc zero) le = met_at row.setting row.values 1
-    ((tt, (value.Int (pos 1), refl, tt)), ((tt, (value.Int (pos 11), refl, tt)), tt)) (others 1) tt
+    ((tt, (value.Int (pos 1), refl, refl)), ((tt, (value.Int (pos 11), refl, refl)), tt)) (others 1) tt
     ((value.Int (pos 1), simp values, simp values), ((value.Int (pos 11), simp values, simp values), tt))
 met (suc (suc zero)) le = met_at row.setting row.values 2
-    ((tt, (value.Int (pos 2), refl, tt)), ((tt, refl), tt)) (others 2) tt ((value.Int (pos 2), simp values, simp values), (tt, tt))
+    ((tt, (value.Int (pos 2), refl, refl)), ((tt, refl), tt)) (others 2) tt ((value.Int (pos 2), simp values, simp values), (tt, tt))
 met (suc (suc (suc zero))) le = met_at row.setting row.values 3
-    ((tt, refl), ((tt, (value.Int (pos 12), refl, tt)), tt)) (others 3) tt (tt, ((value.Int (pos 12), simp values, simp values), tt))
+    ((tt, refl), ((tt, (value.Int (pos 12), refl, refl)), tt)) (others 3) tt (tt, ((value.Int (pos 12), simp values, simp values), tt))
 met (suc (suc (suc (suc zero)))) le = met_at row.setting row.values 4
-    ((tt, (value.Int (pos 3), refl, tt)), ((tt, refl), tt)) (others 4) tt ((value.Int (pos 3), simp values, simp values), (tt, tt))
+    ((tt, (value.Int (pos 3), refl, refl)), ((tt, refl), tt)) (others 4) tt ((value.Int (pos 3), simp values, simp values), (tt, tt))
 met (suc (suc (suc (suc (suc zero))))) le = met_at row.setting row.values 5
-    ((tt, (value.Int (pos 4), refl, tt)), ((tt, (value.Int (pos 14), refl, tt)), tt)) (others 5) tt
+    ((tt, (value.Int (pos 4), refl, refl)), ((tt, (value.Int (pos 14), refl, refl)), tt)) (others 5) tt
     ((value.Int (pos 4), simp values, simp values), ((value.Int (pos 14), simp values, simp values), tt))
 met (suc (suc (suc (suc (suc (suc m)))))) le = absurd (omega arith)
 

@@ -38,7 +38,7 @@ others m (suc x) h = refl
 
 met : MeetsBefore row.setting row.values 2
 met zero le = met_at row.setting row.values 0 ((tt, refl), tt) (others 0) tt (tt, tt)
-met (suc zero) le = met_at row.setting row.values 1 ((tt, (value.Int (pos 9223372036854775807), refl, tt)), tt) (others 1) tt ((value.Int (pos 9223372036854775807), simp values, simp values), tt)
+met (suc zero) le = met_at row.setting row.values 1 ((tt, (value.Int (pos 9223372036854775807), refl, refl)), tt) (others 1) tt ((value.Int (pos 9223372036854775807), simp values, simp values), tt)
 met (suc (suc m)) le = absurd (omega arith)
 
 abbrev next : Expr
@@ -161,7 +161,7 @@ fails_nowhere : (S : Assignment) (m i : ℕ) (k : Fail) → m < 2 → EquationFa
 fails_nowhere S zero i k lt f = absurd (let t : false ≡ true = (counts S 0 f.entry f.equation f.name f.used f.counts).ticks in cc)
 fails_nowhere S (suc zero) i k lt f =
     let c = counts S 1 f.entry f.equation f.name f.used f.counts in
-    f.unsolved greatest (subst (λ z. IsOfKind z.kind greatest) c.name_is tt)
+    f.unsolved greatest (subst (λ z. IsOfKind z.kind greatest) c.name_is refl)
     (subst (λ z. Solves row.setting S 1 z f.equation f.entry.name greatest) f.equation_is (their_solves S S 1 f.entry f.equation f.name greatest c (solved S)))
 fails_nowhere S (suc (suc m)) i k lt f = absurd (omega (arith, lt))
 

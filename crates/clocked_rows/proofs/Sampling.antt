@@ -1,5 +1,5 @@
 -- The sample of an input.
-use Rattle.std.proofs.Common.{◌≡◌, refl, ℕ, zero, suc, None, lit<, arith, pos, inl, inr, slice_get}
+use Rattle.std.proofs.Common.{◌≡◌, refl, ℕ, zero, suc, Some, None, lit<, arith, pos, inl, inr, slice_get}
 use Rattle.std.proofs.lemmas.Fmt.{decimal_digit}
 use Rattle.sync_values.specs.declared.value.Value.TheVariants as value
 use Rattle.rational_time.specs.declared.ratio.Ratio.{Ratio}
@@ -20,13 +20,13 @@ others m (suc (suc x)) h = refl
 
 pub met : row.IsMet
 met zero le = met_at row.setting row.values 0
-    ((refl, (value.Int (pos 5), refl, tt)), ((tt, refl), tt)) (others 0) tt (tt, tt)
+    ((refl, (value.Int (pos 5), refl, refl)), ((tt, refl), tt)) (others 0) tt (tt, tt)
 met (suc zero) le = met_at row.setting row.values 1
-    ((refl, (value.Int (pos 5), refl, tt)), ((tt, (value.Int (pos 5), refl, tt)), tt)) (others 1) tt ((value.Int (pos 5), simp values, simp values), tt)
+    ((refl, (value.Int (pos 5), refl, refl)), ((tt, (value.Int (pos 5), refl, refl)), tt)) (others 1) tt ((value.Int (pos 5), simp values, simp values), tt)
 met (suc (suc zero)) le = met_at row.setting row.values 2
-    ((refl, (value.Int (pos 7), refl, tt)), ((tt, (value.Int (pos 5), refl, tt)), tt)) (others 2) tt ((value.Int (pos 5), simp values, simp values), tt)
+    ((refl, (value.Int (pos 7), refl, refl)), ((tt, (value.Int (pos 5), refl, refl)), tt)) (others 2) tt ((value.Int (pos 5), simp values, simp values), tt)
 met (suc (suc (suc zero))) le = met_at row.setting row.values 3
-    ((refl, (value.Int (pos 7), refl, tt)), ((tt, (value.Int (pos 7), refl, tt)), tt)) (others 3) tt ((value.Int (pos 7), simp values, simp values), tt)
+    ((refl, (value.Int (pos 7), refl, refl)), ((tt, (value.Int (pos 7), refl, refl)), tt)) (others 3) tt ((value.Int (pos 7), simp values, simp values), tt)
 met (suc (suc (suc (suc m)))) le = absurd (omega arith)
 
 listed : (t : Ratio) → AtMost t (whole 2) → Cause row.setting.clocking.clocks row.setting.table.times (whole 2) row.setting.instants t → Among (Same t) row.setting.instants
@@ -47,3 +47,6 @@ instants = are_instants _ _ _ _ (omega arith, (omega arith, tt))
 
 pub other_refused : row.IsOtherRefused
 other_refused h = differ _ _ None _ (value.Int (pos 7)) (value.Int (pos 5)) (simp values) (simp values) (λ e. absurd cc) (h.equations 0 _ refl refl)
+
+pub other_input_refused : row.IsOtherInputRefused
+other_input_refused h = let e : Some (value.Int (pos 8)) ≡ Some (value.Int (pos 7)) = h.inputs 0 _ _ refl refl refl in cc e

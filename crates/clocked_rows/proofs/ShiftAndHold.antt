@@ -21,12 +21,12 @@ others m (suc (suc (suc x))) h = refl
 
 pub met : row.IsMet
 met zero le = met_at row.setting row.values 0
-    ((tt, refl), ((tt, refl), ((tt, (value.Int (pos 7), refl, tt)), tt))) (others 0) tt (tt, (tt, ((value.Int (pos 7), simp values, simp values), tt)))
+    ((tt, refl), ((tt, refl), ((tt, (value.Int (pos 7), refl, refl)), tt))) (others 0) tt (tt, (tt, ((value.Int (pos 7), simp values, simp values), tt)))
 met (suc zero) le = met_at row.setting row.values 1
-    ((tt, (value.Int (pos 1), refl, tt)), ((tt, refl), ((tt, (value.Int (pos 7), refl, tt)), tt))) (others 1) tt
+    ((tt, (value.Int (pos 1), refl, refl)), ((tt, refl), ((tt, (value.Int (pos 7), refl, refl)), tt))) (others 1) tt
     ((value.Int (pos 1), simp values, simp values), (tt, ((value.Int (pos 7), simp values, simp values), tt)))
 met (suc (suc zero)) le = met_at row.setting row.values 2
-    ((tt, refl), ((tt, (value.Int (pos 1), refl, tt)), ((tt, (value.Int (pos 1), refl, tt)), tt))) (others 2) tt
+    ((tt, refl), ((tt, (value.Int (pos 1), refl, refl)), ((tt, (value.Int (pos 1), refl, refl)), tt))) (others 2) tt
     (tt, ((value.Int (pos 1), simp values, simp values), ((value.Int (pos 1), simp values, simp values), tt)))
 met (suc (suc (suc m))) le = absurd (omega arith)
 

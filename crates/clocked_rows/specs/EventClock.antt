@@ -1,5 +1,5 @@
 -- A counter on an event clock, and every second of its values: `when Clock(u > 3) then n = previous(n) + 1; end when; h = subSample(n, 2);`, where the input u is 1, 5, 6, 0 and 9 from the instants 0 to 4 on.
-use Rattle.std.specs.Prelude.{◌≡◌, zero, suc, true, false, [], ◌∷◌, Some, None, pos, codes}
+use Rattle.std.specs.Prelude.{◌≡◌, ℕ, ◌↔◌, zero, suc, true, false, [], ◌∷◌, Some, None, pos, codes}
 use Rattle.sync_values.specs.declared.value.Value.TheVariants as value
 use Rattle.sync_values.specs.declared.value.Rel.TheVariants.{Greater}
 use Rattle.sync_values.specs.declared.value.ChainOp.TheVariants.{Plus}
@@ -17,6 +17,7 @@ use Rattle.flat_model.specs.Assignment.{Assignment}
 use Rattle.flat_model.specs.Setting.{Setting}
 use Rattle.flat_model.specs.Meets.{MeetsAt, Meets}
 use Rattle.flat_model.specs.Trace.{trace_text}
+use Rattle.flat_model.specs.Plan.{HasPlan}
 use Rattle.flat_model.specs.Given.{with_value}
 use Rattle.clocked_rows.specs.Instants.{whole}
 
@@ -87,3 +88,7 @@ IsPrinted = trace_text setting.model.names values setting.instants ≡ codes "ti
 -- a clock that ticks also at the instant 2, where the condition is still true, does not meet it
 abbrev pub IsOtherRefused : Type 0
 IsOtherRefused = MeetsAt setting (with_value values 3 1 (value.Int (pos 2))) 3 → ⊥
+
+-- the plan up to 4 counts each of its two event clocks at each of its five rows, and the rows
+abbrev pub HasCount : Type 0
+HasCount = (count : ℕ) → HasPlan setting (whole 4) count ↔ (count ≡ 15)

@@ -1,8 +1,15 @@
 pub mod Counter
 pub mod EventClock
+pub mod FreeName
+pub mod HeldFault
 pub mod Instants
 pub mod Interval
 pub mod NoClock
+pub mod NoNumber
 pub mod Overflow
 pub mod Sampling
 pub mod ShiftAndHold
+pub mod ShiftedEvent
+pub mod TwoSites
+pub mod Undone
+pub mod UnknownClock

@@ -58,3 +58,7 @@ IsPrinted = trace_text setting.model.names values setting.instants ≡ codes "ti
 -- a sample that reads at the instant 1 the value at this instant does not meet it
 abbrev pub IsOtherRefused : Type 0
 IsOtherRefused = MeetsAt setting (with_value values 2 1 (value.Int (pos 7))) 2 → ⊥
+
+-- an input with another value than the table's does not meet it
+abbrev pub IsOtherInputRefused : Type 0
+IsOtherInputRefused = MeetsAt setting (with_value values 3 0 (value.Int (pos 8))) 3 → ⊥
