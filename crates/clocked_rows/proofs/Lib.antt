@@ -1,3 +1,6 @@
+pub mod Alone
+pub mod Conversions
+pub mod ConvertedAside
 pub mod Counter
 pub mod Counts
 pub mod Each
@@ -12,6 +15,9 @@ pub mod Overflow
 pub mod Sampling
 pub mod ShiftAndHold
 pub mod ShiftedEvent
+pub mod SitesApart
+pub mod TwoBases
+pub mod TwoEquations
 pub mod TwoSites
 pub mod Undone
 pub mod UnknownClock

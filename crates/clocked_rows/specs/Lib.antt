@@ -1,3 +1,4 @@
+pub mod ConvertedAside
 pub mod Counter
 pub mod EventClock
 pub mod FreeName
@@ -10,6 +11,9 @@ pub mod Overflow
 pub mod Sampling
 pub mod ShiftAndHold
 pub mod ShiftedEvent
+pub mod SitesApart
+pub mod TwoBases
+pub mod TwoEquations
 pub mod TwoSites
 pub mod Undone
 pub mod UnknownClock

@@ -3,6 +3,7 @@
 //! Each function here is a law about the meaning of flat models; its body does nothing. The tests run whole commands.
 #![tactic(auto)]
 
+ghost use Rattle.clocked_rows.specs.ConvertedAside as converted_aside;
 ghost use Rattle.clocked_rows.specs.Counter as counter;
 ghost use Rattle.clocked_rows.specs.EventClock as event_clock;
 ghost use Rattle.clocked_rows.specs.FreeName as free_name;
@@ -14,6 +15,9 @@ ghost use Rattle.clocked_rows.specs.Overflow as overflow;
 ghost use Rattle.clocked_rows.specs.Sampling as sampling;
 ghost use Rattle.clocked_rows.specs.ShiftAndHold as shift_and_hold;
 ghost use Rattle.clocked_rows.specs.ShiftedEvent as shifted_event;
+ghost use Rattle.clocked_rows.specs.SitesApart as sites_apart;
+ghost use Rattle.clocked_rows.specs.TwoBases as two_bases;
+ghost use Rattle.clocked_rows.specs.TwoEquations as two_equations;
 ghost use Rattle.clocked_rows.specs.TwoSites as two_sites;
 ghost use Rattle.clocked_rows.specs.Undone as undone;
 ghost use Rattle.clocked_rows.specs.UnknownClock as unknown_clock;
@@ -151,4 +155,37 @@ pub fn hold_waits_for_its_name()
     ensures meets { held_fault.IsMetBefore }
     ensures fault { held_fault.IsFirst }
     ensures line { held_fault.IsLine }
+{}
+
+/// Event clocks of two conditions share no instant: of two names that are each a conversion of the other, neither is
+/// read by the other's equation, and each equation reaches its own.
+pub fn event_clocks_of_two_sites_are_apart()
+    ensures uses { sites_apart.HasUses }
+    ensures unread { sites_apart.IsOtherUnread }
+{}
+
+/// An equation in which a name stands bare and under a conversion is not solved for it, though a value meets it.
+pub fn converted_name_is_not_solved_for()
+    ensures unsolvable { converted_aside.IsUnsolvable }
+    ensures uses { converted_aside.HasUses }
+    ensures meets { converted_aside.IsMet }
+{}
+
+/// Of two equations that fail at the same instant the first is the fault.
+pub fn first_of_two_equations_fails()
+    ensures fault { two_equations.IsFault }
+    ensures changed_fault { two_equations.IsSecondNotFirst }
+    ensures line { two_equations.IsLine }
+    ensures text { two_equations.IsPrinted }
+    ensures met_by_none { two_equations.IsMetByNone }
+{}
+
+/// Two clocks of half and of a third of a second, with nothing between them, tick together at the instant 1, where the
+/// equation of the second divides by 0: it is the first fault, and the instants before are printed.
+pub fn second_partition_fails()
+    ensures instants { two_bases.HasInstants }
+    ensures fault { two_bases.IsFault }
+    ensures line { two_bases.IsLine }
+    ensures text { two_bases.IsPrinted }
+    ensures met_by_none { two_bases.IsMetByNone }
 {}

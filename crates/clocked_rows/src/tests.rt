@@ -27,6 +27,10 @@ const COUNTER: &str =
 const OVERFLOW: &str =
     "model M Integer x(start = 9223372036854775806); equation when Clock(1,2) then x = previous(x) + 1; end when; end M;\n";
 
+/// A sum that is too large and a division by 0, both at the first tick.
+const TWO_FAULTS: &str =
+    "model M Integer a(start = 9223372036854775807); Integer b; equation when Clock(1) then a = previous(a) + 1; b = div(1, previous(b)); end when; end M;\n";
+
 const FINE_CLOCK: &str =
     "model M Integer a; equation when Clock(1, 2147483647) then a = 1; end when; end M;\n";
 
@@ -52,7 +56,7 @@ const BOOLEANS: &str =
     "model M Boolean b(start = true); Integer n; equation when Clock(1) then b = not previous(b); n = if b then 0 else 1 + (if b then div(1, 0) else 0); end when; end M;\n";
 
 /// Calls that reach their stop, are refused or end by a fault.
-const CALLS: [Call; 19] = [
+const CALLS: [Call; 20] = [
     (
         ONE,
         COUNTER,
@@ -103,6 +107,14 @@ const CALLS: [Call; 19] = [
         Status::Faulted,
         "time,x\n0,9223372036854775807\n",
         "fault too-large at 1/2 in equation 1\n",
+    ),
+    (
+        ONE,
+        TWO_FAULTS,
+        NONE,
+        Status::Faulted,
+        "time,a,b\n",
+        "fault too-large at 0 in equation 1\n",
     ),
     (
         ONE,
