@@ -1,5 +1,5 @@
 -- The equations of `count_in`, one for each kind of expression.
-use Rattle.std.proofs.Common.{◌≡◌, refl, ap, ◌∙◌, sym, ℕ, ◌+◌, ◌==◌, ◌&&◌, Bool, true, false, List, Option, map, sum}
+use Rattle.std.proofs.Common.{◌≡◌, ap, ◌∙◌, sym, ℕ, ◌+◌, ◌==◌, ◌&&◌, List, Option, map, sum}
 use Rattle.sync_values.specs.declared.value.Value.{Value}
 use Rattle.sync_values.specs.declared.value.Rel.{Rel}
 use Rattle.sync_values.specs.declared.value.ChainOp.{ChainOp}

@@ -18,7 +18,7 @@ use Rattle.flat_model.specs.Assignment.{Assignment, IsOfKind, last_value}
 use Rattle.flat_model.specs.Setting.{Setting, class_of_equation, class_of_name, name_ticks, start_of, views_at}
 use Rattle.flat_model.specs.Meets.{HasOneValue}
 use Rattle.flat_model.specs.Meaning.{value_of}
-use Rattle.flat_model.specs.Occurrences.{held_count, converted_count}
+use Rattle.flat_model.specs.Occurrences.{held_count, converted_count, sample_count, samples_in_level}
 use Rattle.std.specs.Prelude.{Contains}
 use Rattle.flat_model.specs.Uses.{Use, IsSolvableFor}
 use Rattle.eq_orient.specs.Spine.{IsSpineOf}
@@ -27,7 +27,7 @@ use Rattle.flat_model.specs.Faults.{EquationFails}
 use Rattle.flat_model.specs.Given.{with_value, CanUse, IsOnlySolution}
 use Rattle.flat_model.specs.Given as given
 use Rattle.flat_model.proofs.Agreement.{SameBefore, class_ticks_same, last_same, view_same, views_agree}
-use Rattle.flat_model.proofs.Dependence.{AgreeOn, value_rests, sample_count, samples_in_level}
+use Rattle.flat_model.proofs.Dependence.{AgreeOn, value_rests}
 use Rattle.flat_model.proofs.Levels.{bare_count-Const, held_count-Const, converted_count-Const}
 use Rattle.eq_orient.specs.Solving.{Fits, with_now, Solves}
 

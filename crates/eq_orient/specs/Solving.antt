@@ -10,7 +10,7 @@ use Rattle.flat_model.specs.declared.clock.ClockExpr.TheOpen.{Expr-F}
 use Rattle.flat_model.specs.declared.clock.ClockExpr.TheFolds.{fold-Expr}
 use Rattle.flat_model.specs.declared.equation.Equation.{Equation}
 use Rattle.flat_model.specs.declared.equation.Equation.TheVariants.{Valued, Clocks}
-use Rattle.flat_model.specs.Operators.{Answer, Absent, chain}
+use Rattle.flat_model.specs.Operators.{Answer, Absent}
 use Rattle.flat_model.specs.Views.{Views}
 use Rattle.flat_model.specs.Meaning.{value_of, seen_by}
 use Rattle.flat_model.specs.Meets.{HasOneValue}

@@ -8,4 +8,4 @@ mod standing;
 
 pub use law::{solves_law, spine_law, unread_law};
 pub use solving::solve_value;
-pub use standing::{lags, spine};
+pub use standing::{Manner, lags, spine};

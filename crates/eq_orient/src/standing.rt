@@ -26,19 +26,19 @@ pub enum Manner {
 }
 
 impl Manner {
-    fn is_bare(self) -> bool
+    pub fn is_bare(self) -> bool
         ensures { result ≡ is_bare self }
     {
         matches!(self, Manner::Bare)
     }
 
-    fn is_held(self) -> bool
+    pub fn is_held(self) -> bool
         ensures { result ≡ is_held self }
     {
         matches!(self, Manner::Held)
     }
 
-    fn is_converted(self) -> bool
+    pub fn is_converted(self) -> bool
         ensures { result ≡ is_converted self }
     {
         matches!(self, Manner::Converted)

@@ -1,6 +1,6 @@
-use Rattle.std.proofs.Common.{rules, arith, ◌≡◌, ◌+◌, ◌<◌, ap, sym, subst, ◌∙◌, refl, true, false}
+use Rattle.std.proofs.Common.{arith, ◌+◌, sym, subst, ◌∙◌, refl}
 use Rattle.flat_model.specs.Occurrences.{held_count, converted_count}
-use Rattle.eq_orient.specs.Spine.{tally, Lags}
+use Rattle.eq_orient.specs.Spine.{Lags}
 use Rattle.eq_orient.proofs.Tallies.{is_none, is_some}
 use Rattle.eq_orient.proofs.standing.lags.Goals as goal
 

@@ -1,4 +1,4 @@
-use Rattle.std.proofs.Common.{rules, ◌≡◌, ◌+◌, ap, sym, subst, ◌∙◌, refl, true, false}
+use Rattle.std.proofs.Common.{◌≡◌, ◌+◌, ap, sym, subst, ◌∙◌}
 use Rattle.flat_model.specs.Occurrences.{bare_count}
 use Rattle.eq_orient.specs.Spine.{tally, IsSpineOf}
 use Rattle.eq_orient.proofs.Tallies.{is_one, stands_once}
