@@ -2,7 +2,7 @@ use flat_model::Place;
 use std::alloc::AllocError;
 
 /// A rule that a model with an order of its equations keeps.
-#[derive(Clone, Copy, Debug)]
+#[derive(Clone, Copy, Debug, PartialEq, Eq)]
 pub enum OrderCode {
     /// All names are reached, and an equation is unused.
     Q1,

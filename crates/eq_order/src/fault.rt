@@ -129,6 +129,7 @@ fn first_unused(equations: &[Equation], used: &[bool]) -> Option<usize>
     None
 }
 
+/// The end at an equation.
 fn at_equation(code: OrderCode, i: usize) -> OrderEnd
     requires { i < 2 ^ 32 }
     ensures { result ≡ Fault code (place.Equation i) }

@@ -5,6 +5,7 @@ ghost use Rattle.eq_order.specs.private.Reaching.{count_of, list_at, AreMirrored
 use std::alloc::{AllocError, Global};
 use sync_values::List;
 
+/// Adds a number at the end.
 fn add(list: &mut List<u32>, i: u32) -> Result<(), AllocError>
     ensures { OnOk result (list.new ≡ list.old ++ i ∷ []) }
 {

@@ -1,5 +1,5 @@
-ghost use Rattle.std.specs.Prelude.{◌≡◌};
-ghost use Rattle.flat_model.specs.Models.{IsModel};
+ghost use Rattle.std.specs.Prelude.{◌≡◌, ◌≤◌, length};
+ghost use Rattle.flat_model.specs.Models.{size_limit};
 ghost use Rattle.flat_model.specs.Runnable.{AreClocks};
 ghost use Rattle.flat_model.specs.Setting.{Setting};
 ghost use Rattle.eq_order.specs.Order.{Answers};
@@ -24,7 +24,7 @@ use std::alloc::Global;
 ///
 /// Source: this project's own.
 pub fn order(alloc: Global, flat: &FlatModel, clocking: &Clocking) -> Result<Order, OrderEnd>
-    requires model { IsModel flat.now }
+    requires few { length flat.now.equations ≤ size_limit }
     requires clocks { AreClocks clocking.now }
     // The answer rests on the model and its clocking alone, and not on the table or the stop of a setting.
     ensures { (s : Setting) → s.model ≡ flat.now → s.clocking ≡ clocking.now → Answers s result }

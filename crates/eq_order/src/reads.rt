@@ -16,6 +16,7 @@ use flat_model::{Clocking, Equation, Expr, FlatModel, FlatName, NameKind};
 use std::alloc::{AllocError, Global};
 use sync_values::List;
 
+/// Adds a name where something holds.
 fn push_if(names: &mut Vec<u32>, holds: bool, name: u32) -> Result<(), AllocError>
     ensures { OnOk result ((x : ℕ) → count_of x names.new.items ≡ count_of x names.old.items + one_if (holds && name == x)) }
 {

@@ -1,12 +1,13 @@
 -- What solves an equation over views with a value of a name is what solves it over an assignment with that value.
-use Rattle.std.proofs.Common.{◌≡◌, refl, ap, ◌∙◌, sym, subst, ℕ, suc, ◌-◌, ◌<◌, ◌==◌, ◌&&◌, cond, Bool, true, false, List, Option, Some, Ok, Err, inl, inr, arith, eq-eqb, add-one}
+use Rattle.std.specs.Prelude.{is_none}
+use Rattle.std.proofs.Common.{None, ◌≡◌, refl, ap, ◌∙◌, sym, subst, ℕ, suc, ◌-◌, ◌<◌, ◌==◌, ◌&&◌, cond, Bool, true, false, List, Option, Some, Ok, Err, inl, inr, arith, eq-eqb, add-one}
 use Rattle.std.proofs.Math.Path.{fun_ext}
 use Rattle.std.proofs.lemmas.Bool.{ne_eqb, eqb-true}
 use Rattle.sync_values.specs.declared.value.Value.{Value}
 use Rattle.sync_values.specs.declared.value.Value.TheVariants as value
 use Rattle.sync_values.specs.declared.value.Fail.{Fail}
 use Rattle.flat_model.specs.declared.expression.Expr.{Expr}
-use Rattle.flat_model.specs.declared.expression.Expr.TheVariants.{Const, rolls-Const}
+use Rattle.flat_model.specs.declared.expression.Expr.TheVariants.{IntervalTimes, rolls-IntervalTimes}
 use Rattle.flat_model.specs.declared.clock.ClockExpr.TheOpen.{Expr-F}
 use Rattle.flat_model.specs.declared.clock.ClockExpr.TheFolds.{fold-roll-Expr}
 use Rattle.flat_model.specs.declared.equation.Equation.{Equation}
@@ -15,20 +16,23 @@ use Rattle.flat_model.specs.declared.model.FlatName.{FlatName}
 use Rattle.flat_model.specs.declared.model.NameKind.{NameKind}
 use Rattle.flat_model.specs.declared.model.NameKind.TheVariants as kind
 use Rattle.flat_model.specs.Assignment.{Assignment, IsOfKind, last_value}
-use Rattle.flat_model.specs.Setting.{Setting, class_of_equation, class_of_name, name_ticks, start_of, views_at}
+use Rattle.flat_model.specs.Setting.{Setting, class_of_equation, class_of_name, class_ticks, name_ticks, start_of, views_at}
 use Rattle.flat_model.specs.Meets.{HasOneValue}
 use Rattle.flat_model.specs.Meaning.{value_of}
 use Rattle.flat_model.specs.Occurrences.{held_count, converted_count, sample_count, samples_in_level}
 use Rattle.std.specs.Prelude.{Contains}
 use Rattle.flat_model.specs.Uses.{Use, IsSolvableFor}
-use Rattle.eq_orient.specs.Spine.{IsSpineOf}
+use Rattle.eq_orient.specs.Spine.{count_in, IsSpineOf}
 use Rattle.eq_orient.proofs.Passing.{is_passed}
 use Rattle.flat_model.specs.Faults.{EquationFails}
 use Rattle.flat_model.specs.Given.{with_value, CanUse, IsOnlySolution}
 use Rattle.flat_model.specs.Given as given
-use Rattle.flat_model.proofs.Agreement.{SameBefore, class_ticks_same, last_same, view_same, views_agree}
-use Rattle.flat_model.proofs.Dependence.{AgreeOn, value_rests}
-use Rattle.flat_model.proofs.Levels.{bare_count-Const, held_count-Const, converted_count-Const}
+use Rattle.flat_model.proofs.Agreement.{SameBefore, class_ticks_same, last_same, previous_same, tick_before_same, view_same, views_agree}
+use Rattle.flat_model.proofs.Dependence.{AgreeOn, counted_agree, value_rests}
+use Rattle.flat_model.specs.Asks.{OfInterval, Asked, asked, asked_in_level, AsksFor}
+use Rattle.eq_orient.specs.declared.standing.Manner.{Manner}
+use Rattle.eq_orient.specs.declared.standing.Manner.TheVariants.{Bare, Held, Converted}
+use Rattle.eq_orient.proofs.Counts.{count_in-IntervalTimes}
 use Rattle.eq_orient.specs.Solving.{Fits, with_now, Solves}
 
 -- what an expression asks of ticks at m does not change with the value of x, and x is not held or converted in it
@@ -43,9 +47,22 @@ abbrev pub AreTickFree : Setting → Assignment → ℕ → ℕ → Equation →
 AreTickFree s S m x (Valued left right clause) = IsTickFree s S m x left × IsTickFree s S m x right
 AreTickFree s S m x (Clocks left right clause) = Unit {0}
 
-sample_count-Const : sample_count (Const (value.Bool true)) ≡ 0
-unfolding sample_count
-sample_count-Const = ap sample_count (sym (rolls-Const (value.Bool true))) ∙ fold-roll-Expr (Unit {0}) ℕ (λ _. tt) samples_in_level (Expr-F.Const (value.Bool true))
+-- an expression that asks for the interval of its clock, and for nothing else
+measuring : Expr
+measuring = IntervalTimes None 1
+
+no_samples : sample_count measuring ≡ 0
+unfolding sample_count measuring
+no_samples = ap sample_count (sym (rolls-IntervalTimes None 1)) ∙ fold-roll-Expr (Unit {0}) ℕ (λ _. tt) samples_in_level (Expr-F.IntervalTimes None 1)
+
+no_names : (manner : Manner) (y : ℕ) → count_in manner y measuring ≡ 0
+unfolding measuring
+no_names manner y = count_in-IntervalTimes manner y None 1
+
+asks_interval : AsksFor measuring 0 OfInterval
+unfolding asked measuring
+asks_interval = subst (λ f. 0 < f 0 OfInterval)
+    (sym (ap asked (sym (rolls-IntervalTimes None 1)) ∙ fold-roll-Expr (Unit {0}) Asked (λ _. tt) asked_in_level (Expr-F.IntervalTimes None 1))) (omega arith)
 
 module _ (s : Setting) (S : Assignment) (m x : ℕ) (v : Value) where
   abbrev T : Assignment
@@ -70,12 +87,15 @@ module _ (s : Setting) (S : Assignment) (m x : ℕ) (v : Value) where
       (λ j lt. same_before y j lt))
 
   module _ (class : Option ℕ) where
-    base : AgreeOn (Const (value.Bool true)) (views_at s T class m) (views_at s S class m)
-    base = views_agree s T S class m (Const (value.Bool true)) same_before
-        (λ y some. absurd (omega (arith, some, bare_count-Const y (value.Bool true))))
-        (λ y some. absurd (omega (arith, some, held_count-Const y (value.Bool true))))
-        (λ y some. absurd (omega (arith, some, converted_count-Const y (value.Bool true))))
-        (λ none some. absurd (omega (arith, some, sample_count-Const)))
+    ticks_before : (other : Option ℕ) (j : ℕ) → j < m → class_ticks s T other j ≡ class_ticks s S other j
+    ticks_before other j lt = class_ticks_same s T S other j j (λ z k le. same_before z k (omega (arith, le, lt))) (omega arith)
+
+    base : AgreeOn measuring (views_at s T class m) (views_at s S class m)
+    base = views_agree s T S class m measuring same_before
+        (λ y some. absurd (omega (arith, some, no_names Bare y)))
+        (λ y some. absurd (omega (arith, some, no_names Held y)))
+        (λ y some. absurd (omega (arith, some, no_names Converted y)))
+        (λ none some. absurd (omega (arith, some, no_samples)))
 
     now_tied : (y : ℕ) → T y (m - 0) ≡ cond (y == x) (Some v) (S y (m - 0))
     now_tied y = ap (λ b. cond (b && y == x) (Some v) (S y (m - 0))) (eq-eqb (m - 0) m (let e : m - 0 ≡ m = omega arith in e))
@@ -84,16 +104,16 @@ module _ (s : Setting) (S : Assignment) (m x : ℕ) (v : Value) where
     earlier back some = view_same s T S class (m - suc back) (m - suc back) (λ z k le. same_before z k (omega (arith, le, some))) (omega arith)
 
     tied_views : (e : Expr) → IsTickFree s S m x e → AgreeOn e (views_at s T class m) (with_now x v (views_at s S class m))
-    tied_views e free = record {
+    tied_views e free = counted_agree e (views_at s T class m) (with_now x v (views_at s S class m)) (record {
       now = λ y some. now_tied y;
       held = λ y some. last_tied y (λ is. let moved : held_count y e ≡ held_count x e = ap (λ z. held_count z e) is in omega (arith, some, moved, free.unheld)) (free.held v y some);
       converted = λ y some. last_tied y (λ is. let moved : converted_count y e ≡ converted_count x e = ap (λ z. converted_count z e) is in omega (arith, some, moved, free.unconverted)) (free.converted v y some);
       sampled = λ some. fun_ext (λ back. subst (λ k. views_at s T class m k ≡ with_now x v (views_at s S class m) k) (sym (add-one back))
           (earlier back (λ none. free.samples none some)));
-      previous = base.previous;
-      first = base.first;
-      interval = base.interval;
-    }
+      previous = λ y. previous_same _ _ _ _ _ (m - 0) (λ j lt. ticks_before (class_of_name s y) j (omega (arith, lt))) (λ j lt. same_before y j (omega (arith, lt)));
+      first = ap is_none (tick_before_same _ _ (m - 0) (λ j lt. ticks_before class j (omega (arith, lt))));
+      interval = base 0 OfInterval asks_interval;
+    })
 
     pub tied : (e : Expr) → IsTickFree s S m x e → value_of e (views_at s T class m) ≡ value_of e (with_now x v (views_at s S class m))
     tied e free = value_rests e (views_at s T class m) (with_now x v (views_at s S class m)) (tied_views e free)

@@ -11,14 +11,14 @@ use Rattle.flat_model.specs.Occurrences.{bare_count}
 use Rattle.flat_model.specs.Operators.{Answer, chain, chained, joined}
 use Rattle.flat_model.specs.Views.{Views, before}
 use Rattle.flat_model.specs.Meaning.{value_of, answers}
-use Rattle.flat_model.proofs.Dependence.{AgreeOn, value_rests}
+use Rattle.flat_model.proofs.Dependence.{AgreeOn, counted_agree, value_rests}
 use Rattle.eq_orient.specs.Solving.{with_now}
 
 others_now : (x : ℕ) (w : Value) (views : Views) (y : ℕ) → (y ≡ x → ⊥) → (with_now x w views 0).now y ≡ (views 0).now y
 others_now x w views y other = ap (λ b. cond b (Some w) ((views 0).now y)) (ne_eqb y x other)
 
 agree : (x : ℕ) (w : Value) (views : Views) (e : Expr) → bare_count x e ≡ 0 → AgreeOn e (with_now x w views) views
-agree x w views e none = record {
+agree x w views e none = counted_agree e (with_now x w views) views (record {
   now = λ y some. others_now x w views y (λ same. let moved : bare_count y e ≡ bare_count x e = ap (λ z. bare_count z e) same in omega (arith, some, moved, none));
   held = λ y some. refl;
   converted = λ y some. refl;
@@ -26,7 +26,7 @@ agree x w views e none = record {
   previous = λ y. refl;
   first = refl;
   interval = refl;
-}
+})
 
 pub unread : (x : ℕ) (w : Value) (views : Views) (e : Expr) → bare_count x e ≡ 0 → value_of e (with_now x w views) ≡ value_of e views
 unread x w views e none = value_rests e (with_now x w views) views (agree x w views e none)
