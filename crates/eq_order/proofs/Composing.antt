@@ -1,5 +1,5 @@
 -- The order of a model, from the lists of what its equations read.
-use Rattle.std.proofs.Common.{◌≡◌, refl, ap, ap₂, sym, subst, ◌∙◌, ℕ, zero, suc, ◌<◌, Bool, true, List, [], ◌∷◌, length, get_or, set, map, Result, Ok, Err, All, arith}
+use Rattle.std.proofs.Common.{◌≡◌, refl, ap, sym, subst, ◌∙◌, ℕ, zero, suc, ◌<◌, Bool, true, List, [], ◌∷◌, length, get_or, set, map, Result, Ok, Err, All, arith}
 use Rattle.std.specs.List.{Contains}
 use Rattle.std.specs.Result.{IsErr, IsErrAnd}
 use Rattle.std.proofs.lemmas.List.{length-set}
@@ -12,7 +12,7 @@ use Rattle.eq_order.specs.declared.ends.OrderEnd.{OrderEnd}
 use Rattle.eq_order.specs.declared.ends.OrderEnd.TheVariants.{Fault, NoMemory}
 use Rattle.eq_order.specs.Order.{Answers, use_of}
 use Rattle.eq_order.specs.private.Reaching.{is_waiting, waiting, list_at, AreTaken, flags_after}
-use Rattle.eq_order.specs.private.Tables.{AreReads, AreFlags, HaveEnded, EndsAs, is_known}
+use Rattle.eq_order.specs.private.Tables.{AreReads, HaveEnded, EndsAs, is_known}
 use Rattle.eq_order.proofs.Ties.{uses_are, uses_end, have_spines, start_flags, nothing_done}
 
 -- a setting with this model and clocking

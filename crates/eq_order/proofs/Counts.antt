@@ -1,9 +1,9 @@
 -- Counts that go down as names are reached.
-use Rattle.std.proofs.Common.{◌≡◌, ◌≢◌, refl, subst, sym, ap, ◌∙◌, ℕ, zero, suc, ◌+◌, ◌-◌, ◌<◌, ◌≤◌, ◌==◌, Bool, true, false, not, cond, List, [], ◌∷◌, ◌++◌, inl, inr, length, get_or, set, take, drop, sum, sum_by, arith, filter, count_by}
-use Rattle.std.proofs.lemmas.Bool.{cases_eq, cases_lt, eq-eqb, ne_eqb, cases_Bool}
-use Rattle.std.proofs.lemmas.List.{get_or-set_same, get_or-set_other, get_or_past, get_or-map}
-use Rattle.std.proofs.lemmas.List.Sums.{sum_by_more, sum_by-cons, sum_by-set, sum_by-take-le, sum_by_more_le}
-use Rattle.eq_order.specs.private.Reaching.{count_of, is_waiting, waiting, list_at}
+use Rattle.std.proofs.Common.{◌≡◌, refl, subst, sym, ap, ◌∙◌, ℕ, ◌+◌, ◌-◌, ◌<◌, ◌≤◌, ◌==◌, Bool, true, false, cond, List, inl, inr, length, get_or, set, take, sum, arith}
+use Rattle.std.proofs.lemmas.Bool.{cases_eq, cases_lt, eq-eqb, ne_eqb}
+use Rattle.std.proofs.lemmas.List.{get_or-set_same, get_or-set_other, get_or_past}
+use Rattle.std.proofs.lemmas.List.Sums.{sum_by_more, sum_by-set, sum_by-take-le}
+use Rattle.eq_order.specs.private.Reaching.{count_of}
 
 -- one more element of a list counts where it is the one
 pub count_more : (xs : List ℕ) (k i : ℕ) → k < length xs → count_of i (take (k + 1) xs) ≡ count_of i (take k xs) + cond (get_or xs k 0 == i) 1 0

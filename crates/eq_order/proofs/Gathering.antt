@@ -1,5 +1,5 @@
 -- The names that are gathered from the parts of an expression.
-use Rattle.std.proofs.Common.{◌≡◌, refl, ap, sym, ◌∙◌, ℕ, ◌+◌, List, map, sum, Result, Ok, Err, arith}
+use Rattle.std.proofs.Common.{◌≡◌, ap, sym, ◌∙◌, ℕ, ◌+◌, List, map, sum, Result, Ok, Err, arith}
 use Rattle.std.specs.Prelude.{OnOk, IfOk}
 use Rattle.sync_values.specs.declared.value.ChainOp.{ChainOp}
 use Rattle.flat_model.specs.declared.expression.Fun.{Fun}

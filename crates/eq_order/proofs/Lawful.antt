@@ -1,12 +1,11 @@
 -- The law of an order: what follows from its uses, once all names are reached and all equations used.
-use Rattle.std.proofs.Common.{◌≡◌, ◌≢◌, ◌⊎◌, inl, inr, refl, sym, ap, subst, ◌∙◌, ℕ, zero, suc, ◌+◌, ◌<◌, ◌≤◌, List, [], ◌∷◌, ◌++◌, length, take, map, get_or, Option, Some, None, slice_get, arith, append_assoc, append-nil}
+use Rattle.std.proofs.Common.{◌≡◌, ◌⊎◌, inl, inr, refl, sym, ap, subst, ◌∙◌, ℕ, zero, suc, ◌<◌, List, [], ◌∷◌, ◌++◌, take, map, Some, slice_get, arith, append_assoc, append-nil}
 use Rattle.std.proofs.lemmas.Bool.{cases_eq, cases_order}
 use Rattle.std.proofs.lemmas.Option.{same_Some}
 use Rattle.std.specs.List.{Contains}
-use Rattle.flat_model.specs.declared.equation.Equation.{Equation}
 use Rattle.flat_model.specs.Setting.{Setting}
-use Rattle.flat_model.specs.Uses.{Use, EquationReads, IsUnreached, IsNextUse, AreUsesAfter, AreUses, reached_names, used_equations}
-use Rattle.eq_order.specs.Order.{IsOrder, IsOwn, HasOneUse, IsLawful, OrderLaw}
+use Rattle.flat_model.specs.Uses.{Use, EquationReads, IsNextUse, AreUsesAfter, reached_names, used_equations}
+use Rattle.eq_order.specs.Order.{HasOneUse, OrderLaw}
 
 no_member : (x : ℕ) → Contains [] x → ⊥
 no_member x (k, within, is) = omega (arith, within)

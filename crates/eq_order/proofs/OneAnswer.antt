@@ -1,6 +1,6 @@
 -- A model and its clocking have one answer.
-use Rattle.std.proofs.Common.{◌≡◌, refl, ap, ap₂, sym, subst, ◌∙◌, ◌⊎◌, inl, inr, ℕ, ◌+◌, ◌<◌, Bool, List, [], ◌∷◌, ◌++◌, length, map, Option, Some, Result, Ok, Err, arith}
-use Rattle.std.specs.Prelude.{slice_get, Contains}
+use Rattle.std.proofs.Common.{◌≡◌, refl, ap, ap₂, sym, subst, ◌∙◌, ◌⊎◌, inl, inr, ℕ, Bool, List, [], ◌∷◌, ◌++◌, map, Some, Ok, Err}
+use Rattle.std.specs.Prelude.{slice_get}
 use Rattle.std.proofs.lemmas.Bool.{cases_order}
 use Rattle.std.proofs.lemmas.Option.{same_Some}
 use Rattle.flat_model.specs.declared.equation.Equation.{Equation}
@@ -10,15 +10,13 @@ use Rattle.flat_model.specs.declared.place.Place.TheVariants as place
 use Rattle.flat_model.specs.Setting.{Setting}
 use Rattle.flat_model.specs.Uses as model
 use Rattle.flat_model.specs.Uses.{EquationReads, IsUnreached, CanReach, IsNextUse, AreUsesAfter, AreUses}
-use Rattle.eq_orient.specs.declared.kinds.Spine.{Spine}
 use Rattle.eq_orient.specs.Spine.{IsSpineOf}
 use Rattle.eq_orient.proofs.OneAnswer.{one_side}
 use Rattle.eq_order.specs.declared.uses.Use.{Use}
 use Rattle.eq_order.specs.declared.ends.OrderCode.{OrderCode}
 use Rattle.eq_order.specs.declared.ends.OrderCode.TheVariants.{Q1, Q2, Q3, Q4}
-use Rattle.eq_order.specs.declared.ends.OrderEnd.{OrderEnd}
 use Rattle.eq_order.specs.declared.ends.OrderEnd.TheVariants.{Fault, NoMemory}
-use Rattle.eq_order.specs.Order.{IsLeast, IsUnused, ReadsUnreached, IsStuck, AreTooFew, Breaks, use_of, HasSpine, HaveSpines, IsOrder, Answers, AnswerLaw}
+use Rattle.eq_order.specs.Order.{IsLeast, IsUnused, ReadsUnreached, IsStuck, Breaks, use_of, HasSpine, HaveSpines, IsOrder, AnswerLaw}
 
 -- the least number is one
 one_least : (P : ℕ → Type 0) (i j : ℕ) → IsLeast P i → IsLeast P j → i ≡ j

@@ -1,7 +1,6 @@
 -- What the lists of gathered names hold.
-use Rattle.std.proofs.Common.{◌≡◌, refl, ap, sym, subst, ◌∙◌, ◌↔◌, ◌⊎◌, inl, inr, ℕ, zero, suc, ◌+◌, ◌<◌, ◌≤◌, ◌==◌, Bool, true, false, cond, List, [], ◌∷◌, ◌++◌, length, take, get_or, count_by, filter, map, Option, Some, slice_get, arith, add-one}
+use Rattle.std.proofs.Common.{◌≡◌, refl, ap, sym, subst, ◌∙◌, ◌↔◌, ◌⊎◌, inl, inr, ℕ, zero, suc, ◌+◌, ◌<◌, ◌≤◌, ◌==◌, Bool, true, cond, List, [], ◌∷◌, ◌++◌, length, take, get_or, map, Option, Some, slice_get, arith, add-one}
 use Rattle.std.specs.List.{Contains}
-use Rattle.std.specs.List.Sorted.{IsStrictlyIncreasing}
 use Rattle.std.specs.List.{AllPairs}
 use Rattle.std.proofs.lemmas.Bool.{cases_eq, eq-eqb, ne_eqb}
 use Rattle.std.proofs.lemmas.List.{get_or_append_left, get_or_past}
@@ -16,8 +15,7 @@ use Rattle.flat_model.specs.declared.expression.Expr.{Expr}
 use Rattle.flat_model.specs.declared.model.FlatModel.{FlatModel}
 use Rattle.flat_model.specs.Occurrences.{bare_count, held_count, converted_count}
 use Rattle.flat_model.specs.Setting.{Setting, class_of_name, class_of_equation, flattened}
-use Rattle.flat_model.specs.Uses.{ClassesMeet, EquationReads, Reads}
-use Rattle.eq_order.specs.Order.{IsOwn}
+use Rattle.flat_model.specs.Uses.{ClassesMeet, EquationReads}
 use Rattle.eq_order.specs.private.Reaching.{count_of, is_waiting, waiting, list_at}
 use Rattle.eq_order.specs.private.Tables.{ReadsBy, IsRow, AreReads, is_known}
 use Rattle.eq_order.proofs.Ties.{no_member, in_waiting, from_waiting, own_of, unreached_by, start_flags}

@@ -1,14 +1,13 @@
 -- What the counts of unreached names tell where the uses have ended.
-use Rattle.std.proofs.Common.{◌≡◌, ◌≢◌, refl, ap, sym, subst, ◌∙◌, ◌⊎◌, inl, inr, ℕ, zero, suc, ◌+◌, ◌<◌, ◌≤◌, ◌==◌, Bool, true, false, not, cond, List, [], ◌∷◌, length, get_or, map, filter, count_by, Option, Some, Err, slice_get, arith}
+use Rattle.std.proofs.Common.{◌≡◌, refl, ap, sym, subst, ◌∙◌, inl, inr, ℕ, zero, suc, ◌<◌, ◌==◌, Bool, true, false, not, cond, List, [], ◌∷◌, length, get_or, map, count_by, Some, Err, slice_get, arith}
 use Rattle.std.specs.List.{Contains}
-use Rattle.std.proofs.lemmas.Bool.{cases_Bool, cases_lt, eqb-true, ne_eqb}
+use Rattle.std.proofs.lemmas.Bool.{cases_Bool, cases_lt, ne_eqb}
 use Rattle.std.proofs.lemmas.Option.{same_Some, slice_get_within}
 use Rattle.std.proofs.lemmas.List.{get_or_past}
 use Rattle.std.proofs.lemmas.List.Sums.{length-filter}
 use Rattle.flat_model.specs.declared.equation.Equation.{Equation}
 use Rattle.flat_model.specs.declared.equation.Equation.TheVariants.{Valued, Clocks}
 use Rattle.flat_model.specs.declared.model.FlatName.{FlatName}
-use Rattle.flat_model.specs.declared.place.Place.TheVariants as place
 use Rattle.flat_model.specs.Setting.{Setting}
 use Rattle.flat_model.specs.Uses as model
 use Rattle.flat_model.specs.Uses.{EquationReads, Reads, IsUnreached, used_equations}
@@ -16,7 +15,7 @@ use Rattle.eq_order.specs.declared.uses.Use.{Use}
 use Rattle.eq_order.specs.declared.ends.OrderCode.TheVariants.{Q2}
 use Rattle.eq_order.specs.declared.ends.OrderEnd.{OrderEnd}
 use Rattle.eq_order.specs.declared.ends.OrderEnd.TheVariants.{Fault, NoMemory}
-use Rattle.eq_order.specs.Order.{Breaks, IsLeast, AreAll, IsOwn, IsUnused, ReadsUnreached, IsStuck, AreTooFew, use_of}
+use Rattle.eq_order.specs.Order.{Breaks, IsLeast, AreAll, IsUnused, ReadsUnreached, IsStuck, AreTooFew, use_of}
 use Rattle.eq_order.specs.private.Reaching.{is_waiting, waiting, list_at, waiting_count}
 use Rattle.eq_order.specs.private.Tables.{AreReads, HaveEnded, count_below, is_idle, IsIdle, IsAtName, EndsAs}
 use Rattle.eq_order.proofs.Listed.{one_list}

@@ -1,8 +1,7 @@
 -- The uses that the lists give are those of the model.
-use Rattle.std.proofs.Common.{◌≡◌, ◌≢◌, ◌⊎◌, inl, inr, refl, sym, ap, subst, ◌∙◌, ℕ, zero, suc, ◌+◌, ◌<◌, ◌≤◌, ◌==◌, Bool, true, false, cond, List, [], ◌∷◌, ◌++◌, length, take, map, get_or, set, filter, count_by, Option, Some, None, slice_get, arith, append_assoc, append-nil, not, ◌||◌}
+use Rattle.std.proofs.Common.{◌≡◌, ◌≢◌, ◌⊎◌, inl, inr, refl, sym, ap, subst, ◌∙◌, ℕ, zero, suc, ◌<◌, ◌≤◌, ◌==◌, Bool, true, false, cond, List, [], ◌∷◌, ◌++◌, length, take, map, get_or, set, Option, Some, None, slice_get, arith, append_assoc, append-nil, not, ◌||◌}
 use Rattle.std.proofs.lemmas.Bool.{cases_eq, cases_Bool, eq-eqb, ne_eqb}
 use Rattle.std.proofs.lemmas.Option.{same_Some}
-use Rattle.std.proofs.lemmas.List.Sums.{sum_by-cons}
 use Rattle.std.proofs.lemmas.List.Elements.{Contains-push, Contains-push_cases, Contains-append_left}
 use Rattle.std.specs.List.{Contains}
 use Rattle.flat_model.specs.declared.equation.Equation.{Equation}
@@ -14,7 +13,7 @@ use Rattle.flat_model.specs.Uses as model
 use Rattle.flat_model.specs.Uses.{EquationReads, Reads, IsSolvableFor, IsUnreached, CanReach, IsNextUse, AreUsesAfter, reached_names, used_equations}
 use Rattle.eq_order.specs.declared.uses.Use.{Use}
 use Rattle.eq_order.specs.Order.{IsOwn, use_of, HaveSpines}
-use Rattle.eq_order.specs.private.Reaching.{count_of, is_waiting, waiting, list_at, CanTake, IsNext, AreTaken, flags_after}
+use Rattle.eq_order.specs.private.Reaching.{count_of, is_waiting, waiting, list_at, CanTake, AreTaken, flags_after}
 use Rattle.eq_order.specs.private.Tables.{AreReads, AreFlags, AreDone, HaveEnded, is_known, is_clock_kind}
 use Rattle.eq_order.proofs.Turns.{waits, reached_now, others_stay, has_flag, count_cons}
 

@@ -2,7 +2,6 @@
 use Rattle.std.specs.Prelude.{◌≡◌, ℕ, ◌==◌, Bool, true, not, ◌<◌, List, [], ◌∷◌, Some, slice_get, slice_index_or, slice_set, filter, count_by}
 use Rattle.flat_model.specs.declared.equation.Equation.{Equation}
 use Rattle.flat_model.specs.Uses.{IsSolvableFor}
-use Rattle.eq_orient.specs.Spine.{IsSpineOf}
 use Rattle.eq_order.specs.declared.uses.Use.{Use}
 use Rattle.eq_order.specs.Order.{HasSpine}
 

@@ -1,5 +1,4 @@
-use Rattle.std.proofs.Common.{◌≡◌, refl, ap, sym, subst, ℕ, ◌<◌, length, map, Err}
-use Rattle.flat_model.specs.Setting.{Setting}
+use Rattle.std.proofs.Common.{sym, subst, ◌<◌, length, map, Err}
 use Rattle.eq_order.specs.Order.{IsLeast, use_of}
 use Rattle.eq_order.specs.private.Tables.{EndsAs, IsIdle}
 use Rattle.eq_order.proofs.Surveys.{least_unused, none_unused}

@@ -1,4 +1,4 @@
-use Rattle.std.proofs.Common.{◌≡◌, ap, sym, subst, ◌∙◌, ◌<◌, length, map, Err, arith}
+use Rattle.std.proofs.Common.{ap, sym, subst, ◌∙◌, ◌<◌, length, map, Err, arith}
 use Rattle.eq_order.specs.Order.{use_of}
 use Rattle.eq_order.specs.private.Reaching.{is_waiting}
 use Rattle.eq_order.specs.private.Tables.{EndsAs, count_below}

@@ -1,4 +1,4 @@
-use Rattle.std.proofs.Common.{◌≡◌, ℕ, ◌<◌}
+use Rattle.std.proofs.Common.{ℕ, ◌<◌}
 use Rattle.eq_order.specs.private.Reaching.{waiting_count}
 use Rattle.eq_order.proofs.fault.first_reader.Given as goal
 

@@ -1,4 +1,4 @@
-use Rattle.std.proofs.Common.{◌≡◌, ℕ, ◌<◌, ◌≤◌, [], vec_len}
+use Rattle.std.proofs.Common.{◌≡◌, ℕ, ◌<◌, ◌≤◌, vec_len}
 use Rattle.eq_order.specs.private.Reaching.{count_of, list_at}
 use Rattle.eq_order.proofs.mirror.mirrored.Given as goal
 

@@ -1,4 +1,4 @@
-use Rattle.std.proofs.Common.{◌≡◌, drop, slice_get}
+use Rattle.std.proofs.Common.{◌≡◌, drop}
 use Rattle.eq_order.specs.private.Reaching.{waiting}
 use Rattle.eq_order.proofs.reaching.first_waiting.Given as goal
 

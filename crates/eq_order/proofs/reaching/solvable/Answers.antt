@@ -1,4 +1,4 @@
-use Rattle.std.proofs.Common.{rules, ◌≡◌, ap, sym, subst, ◌∙◌, refl, true, false}
+use Rattle.std.proofs.Common.{◌≡◌, sym, ◌∙◌, true, false}
 use Rattle.eq_order.proofs.Solvable.{solvable_by, not_lagging, spine_by}
 use Rattle.eq_order.proofs.reaching.solvable.Goals as goal
 

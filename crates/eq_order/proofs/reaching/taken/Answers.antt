@@ -1,10 +1,9 @@
-use Rattle.std.proofs.Common.{rules, ◌≡◌, ◌≢◌, ℕ, ◌<◌, ◌≤◌, ◌+◌, true, [], ◌∷◌, ◌++◌, List, Some, length, map, get_or, set, slice_get, arith, refl, sym, ap, subst, ◌∙◌, inl, inr, count_by, filter, append-nil}
+use Rattle.std.proofs.Common.{rules, ◌≡◌, ℕ, ◌<◌, true, [], ◌++◌, length, get_or, arith, refl, sym, ap, subst, ◌∙◌, inl, inr, append-nil}
 use Rattle.std.proofs.lemmas.Bool.{cases_eq}
 use Rattle.std.proofs.lemmas.List.{get_or_read, with_items_is, length-map, length-set}
 use Rattle.std.specs.Ordering.{nat_cmp}
-use Rattle.std.specs.BTreeSet.{contains, btree_set_len, IsLowerBound, Updates}
-use Rattle.eq_order.specs.declared.uses.Use.{Use}
-use Rattle.eq_order.specs.private.Reaching.{waiting, list_at, is_waiting, count_of, CanTake, AreTaken, flags_after, AreLeft, IsNext}
+use Rattle.std.specs.BTreeSet.{contains, btree_set_len, IsLowerBound}
+use Rattle.eq_order.specs.private.Reaching.{list_at, count_of, CanTake, AreTaken, flags_after, AreLeft, IsNext}
 use Rattle.eq_order.proofs.Turns.{waits, has_flag}
 use Rattle.eq_order.proofs.Sets.{was_there}
 use Rattle.eq_order.proofs.Steps.{GoDown, left_after, ready_after, ready_less, is_next, flags_more, start_left, start_ready, enough_names, none_left, taken_more}

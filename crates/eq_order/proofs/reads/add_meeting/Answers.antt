@@ -1,6 +1,6 @@
-use Rattle.std.proofs.Common.{◌≡◌, ◌∙◌, ap, sym, subst, ◌↔◌, ◌⊎◌, ◌<◌, ◌+◌, ℕ, true, get_or, take, take_all, length, slice_get, arith}
+use Rattle.std.proofs.Common.{◌≡◌, ◌∙◌, ap, sym, subst, ◌↔◌, ◌⊎◌, ◌<◌, ◌+◌, ℕ, true, get_or, take_all, length, slice_get}
 use Rattle.std.specs.List.{Contains}
-use Rattle.flat_model.specs.Setting.{Setting, class_of_name, flattened}
+use Rattle.flat_model.specs.Setting.{class_of_name, flattened}
 use Rattle.flat_model.specs.Uses.{ClassesMeet}
 use Rattle.eq_order.specs.private.Reaching.{is_waiting}
 use Rattle.eq_order.proofs.Reading.{AreAdded, added_skip, added_push}

@@ -1,4 +1,4 @@
-use Rattle.std.proofs.Common.{◌≡◌, ◌∙◌, refl, ap, sym, subst, ◌<◌, ◌+◌, Some, length, length-append, slice_get, [], ◌∷◌, arith}
+use Rattle.std.proofs.Common.{◌≡◌, ◌∙◌, refl, ap, sym, subst, ◌<◌, Some, length, length-append, slice_get, [], ◌∷◌, arith}
 use Rattle.std.proofs.lemmas.Option.{slice_get_read}
 use Rattle.flat_model.specs.Setting.{flattened}
 use Rattle.eq_order.proofs.Reading.{AreRows, rows_push, reads_of_rows}
