@@ -8,15 +8,17 @@ use Rattle.flat_model.specs.Setting.{Setting}
 use Rattle.flat_model.specs.Uses.{Use}
 use Rattle.flat_model.specs.Given.{Row}
 use Rattle.flat_model.proofs.OneSolution.{AreSitesUnclocked}
-use Rattle.moment_theory.specs.Order.{IsReachedBy, IsFree, AreInOrder}
+use Rattle.moment_theory.specs.Free.{IsReachedBy}
+use Rattle.moment_theory.proofs.Ordered.{IsFreeUse, AreFreeUses}
 use Rattle.moment_theory.specs.Taken.{put, Gives, IsTaken, AreTaken}
 use Rattle.moment_theory.proofs.Above.{IsBelow}
 use Rattle.moment_theory.proofs.Rows.{below_same}
 use Rattle.moment_theory.proofs.Transfer.{IsSound, Needs, can_up, only_up}
-use Rattle.moment_theory.proofs.Taking.{IsClear, IsMember, over, same_over, below_over, put_same, put_other, step_other, step_clear, step_sound, unchanged, taken_sound}
+use Rattle.moment_theory.proofs.Taking.{IsClear, over, same_over, below_over, put_same, put_other, step_other, step_clear, step_sound, unchanged, taken_sound}
+use Rattle.moment_theory.proofs.Members.{IsMember}
 
 -- a set of names that holds the names of these uses and what they need
-abbrev pub HoldsNeeds : (s : Setting) → (ℕ → Type 0) → (uses : List Use) → AreInOrder s uses → Type 0
+abbrev pub HoldsNeeds : (s : Setting) → (ℕ → Type 0) → (uses : List Use) → AreFreeUses s uses → Type 0
 HoldsNeeds s N [] order = Unit {0}
 HoldsNeeds s N (entry ∷ later) order = N entry.name × ((y : ℕ) → Needs s entry later order.0 y → N y) × HoldsNeeds s N later order.1
 
@@ -24,7 +26,7 @@ abbrev pub SameOn : (ℕ → Type 0) → Row → Row → Type 0
 SameOn N a b = (y : ℕ) → N y → a y ≡ b y
 
 module _ (s : Setting) (unclocked : AreSitesUnclocked s) (S : Assignment) (m : ℕ) (N : ℕ → Type 0) where
-  pub gives_same : (a b : Row) (entry : Use) (later : List Use) (free : IsFree s entry later) → ((y : ℕ) → Needs s entry later free y → N y) → SameOn N a b → IsSound s (over s unclocked S m a) m
+  pub gives_same : (a b : Row) (entry : Use) (later : List Use) (free : IsFreeUse s entry later) → ((y : ℕ) → Needs s entry later free y → N y) → SameOn N a b → IsSound s (over s unclocked S m a) m
       → (v : Value) → Gives s S m a entry v → Gives s S m b entry v
   gives_same a b entry later free needs same sound v gives =
       let up : (y : ℕ) → Needs s entry later free y → IsBelow (over s unclocked S m a y m) (over s unclocked S m b y m) = λ y n. below_over s unclocked S m a b y (below_same (a y) (b y) (same y (needs y n))) in record {
@@ -35,7 +37,7 @@ module _ (s : Setting) (unclocked : AreSitesUnclocked s) (S : Assignment) (m : �
       }
 
   -- the step that is taken over one row is taken over another that is the same on what it needs
-  step_apart : (a b next : Row) (entry : Use) (later : List Use) (free : IsFree s entry later) → N entry.name → ((y : ℕ) → Needs s entry later free y → N y) → SameOn N a b
+  step_apart : (a b next : Row) (entry : Use) (later : List Use) (free : IsFreeUse s entry later) → N entry.name → ((y : ℕ) → Needs s entry later free y → N y) → SameOn N a b
       → IsSound s (over s unclocked S m a) m → IsSound s (over s unclocked S m b) m → IsTaken s S m entry a next → (other : Row) × IsTaken s S m entry b other × SameOn N next other
   step_apart a b next entry later free own needs same sound_a sound_b (inl (v, gives, is)) = (
     put b entry.name v,
@@ -51,7 +53,7 @@ module _ (s : Setting) (unclocked : AreSitesUnclocked s) (S : Assignment) (m : �
     λ y n. is y ∙ same y n,
   )
 
-  pub taken_apart : (uses : List Use) (order : AreInOrder s uses) → HoldsNeeds s N uses order → (a b last : Row) → SameOn N a b → IsClear uses a → IsClear uses b
+  pub taken_apart : (uses : List Use) (order : AreFreeUses s uses) → HoldsNeeds s N uses order → (a b last : Row) → SameOn N a b → IsClear uses a → IsClear uses b
       → IsSound s (over s unclocked S m a) m → IsSound s (over s unclocked S m b) m → AreTaken s S m uses a last → (other : Row) × AreTaken s S m uses b other × SameOn N last other
   taken_apart [] order holds a b last same clear_a clear_b sound_a sound_b taken = (b, (λ y. refl), λ y n. taken y ∙ same y n)
   taken_apart (entry ∷ later) order holds a b last same clear_a clear_b sound_a sound_b (next, step, rest) =
@@ -68,7 +70,7 @@ append_taken s S m (entry ∷ first) second a b c (next, step, rest) two = (next
 
 -- a part that was taken by itself from the same base may be taken behind others that reach nothing that it needs: it gives the same
 module _ (s : Setting) (unclocked : AreSitesUnclocked s) (S : Assignment) (m : ℕ) (base : Row) (sound : IsSound s (over s unclocked S m base) m)
-    (others part : List Use) (order_others : AreInOrder s others) (order : AreInOrder s part) (clear_others : IsClear others base) (clear : IsClear part base)
+    (others part : List Use) (order_others : AreFreeUses s others) (order : AreFreeUses s part) (clear_others : IsClear others base) (clear : IsClear part base)
     (N : ℕ → Type 0) (holds : HoldsNeeds s N part order) (apart : (y : ℕ) → N y → IsReachedBy y others → ⊥) (distinct : (y : ℕ) → IsReachedBy y part → IsReachedBy y others → ⊥) where
   pub record IsBeside (there own : Row) : Type 0 where
     pub row : Row

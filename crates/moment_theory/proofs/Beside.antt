@@ -5,7 +5,8 @@ use Rattle.flat_model.specs.Setting.{Setting}
 use Rattle.flat_model.specs.Uses.{Use}
 use Rattle.flat_model.specs.Given.{Row}
 use Rattle.flat_model.proofs.OneSolution.{AreSitesUnclocked}
-use Rattle.moment_theory.specs.Order.{IsReachedBy, AreInOrder}
+use Rattle.moment_theory.specs.Free.{IsReachedBy}
+use Rattle.moment_theory.proofs.Ordered.{AreFreeUses}
 use Rattle.moment_theory.specs.Taken.{AreTaken}
 use Rattle.moment_theory.proofs.Transfer.{IsSound}
 use Rattle.moment_theory.proofs.Taking.{IsClear, over}
@@ -43,13 +44,13 @@ bare_end (first ∷ a) = ap (λ r. first ∷ r) (bare_end a)
 module _ (s : Setting) (unclocked : AreSitesUnclocked s) (S : Assignment) (m : ℕ) (base : Row) (sound : IsSound s (over s unclocked S m base) m) (N : ℕ → ℕ → Type 0) (owns : ℕ → Row) where
   -- a piece needs nothing that those before it reach, and reaches nothing that they reach
   pub record IsApart (i : ℕ) (others piece : List Use) : Type 0 where
-    pub order : AreInOrder s piece
+    pub order : AreFreeUses s piece
     pub clear : IsClear piece base
     pub holds : HoldsNeeds s (N i) piece order
     pub own : (y : ℕ) → IsReachedBy y piece → N i y
     pub apart : (y : ℕ) → N i y → IsReachedBy y others → ⊥
     pub distinct : (y : ℕ) → IsReachedBy y piece → IsReachedBy y others → ⊥
-    pub order_all : AreInOrder s (others ++ piece)
+    pub order_all : AreFreeUses s (others ++ piece)
     pub clear_all : IsClear (others ++ piece) base
 
   abbrev pub AreApart : ℕ → List Use → List (List Use) → Type 0
@@ -79,7 +80,7 @@ module _ (s : Setting) (unclocked : AreSitesUnclocked s) (S : Assignment) (m : �
     pub each : HasEach i pieces row
     pub kept : (y : ℕ) → (IsReachedBy y (joined pieces) → ⊥) → row y ≡ there y
 
-  pub all_beside : (i : ℕ) (pieces : List (List Use)) (others : List Use) → AreInOrder s others → IsClear others base → (there : Row) → AreTaken s S m others base there
+  pub all_beside : (i : ℕ) (pieces : List (List Use)) (others : List Use) → AreFreeUses s others → IsClear others base → (there : Row) → AreTaken s S m others base there
       → AreApart i others pieces → AreAlone i pieces → Together i others there pieces
   all_beside i [] others order clear there taken apart alone = record {
     row = there;

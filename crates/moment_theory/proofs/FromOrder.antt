@@ -8,9 +8,10 @@ use Rattle.flat_model.specs.Occurrences.{converted_count}
 use Rattle.flat_model.specs.Setting.{Setting, class_of_name, class_of_equation, clock_of}
 use Rattle.flat_model.specs.Uses.{Use, ReadsIn}
 use Rattle.flat_model.proofs.Dependence.{sample_count}
-use Rattle.moment_theory.specs.Order.{SiteReads, AsksLastIn, AreOnOneAxis, IsReachedBy, IsSideFree, IsFree, AreInOrder}
-use Rattle.moment_theory.proofs.Taking.{IsMember}
+use Rattle.moment_theory.specs.Free.{SiteReads, AsksLastIn, IsReachedBy}
+use Rattle.moment_theory.proofs.Ordered.{AreOnOneAxis, IsFreeSide, IsFreeUse, AreFreeUses}
 use Rattle.moment_theory.proofs.FromUses.{AreReadFree}
+use Rattle.moment_theory.proofs.Members.{IsMember}
 
 -- what the front end gives of one side of a used equation
 pub record IsSideOf (s : Setting) (i x : ℕ) (e : Expr) : Type 0 where
@@ -41,7 +42,7 @@ AreSitesEarlier s [] of = Unit {0}
 AreSitesEarlier s (entry ∷ later) of =
     ((class : Option ℕ) (y : ℕ) → AsksClass s entry (of entry) class → SiteReads s class y → (y ≡ entry.name) ⊎ IsReachedBy y later → ⊥) × AreSitesEarlier s later of
 
-pub in_order : (s : Setting) (uses : List Use) (of : (entry : Use) → IsUseOf s entry) → AreReadFree s uses → AreSitesEarlier s uses of → AreInOrder s uses
+pub in_order : (s : Setting) (uses : List Use) (of : (entry : Use) → IsUseOf s entry) → AreReadFree s uses → AreSitesEarlier s uses of → AreFreeUses s uses
 in_order s [] of free sites = tt
 in_order s (entry ∷ later) of free sites =
     let is = of entry in (

@@ -5,8 +5,8 @@ use Rattle.std.proofs.lemmas.Option.{same_Some}
 use Rattle.flat_model.specs.declared.equation.Equation.{Equation}
 use Rattle.flat_model.specs.Setting.{Setting}
 use Rattle.flat_model.specs.Uses.{Use, EquationReads, IsUnreached, CanReach, IsNextUse, AreUsesAfter, AreUses, reached_names}
-use Rattle.moment_theory.specs.Order.{IsReachedBy}
-use Rattle.moment_theory.proofs.Taking.{IsMember}
+use Rattle.moment_theory.specs.Free.{IsReachedBy}
+use Rattle.moment_theory.proofs.Members.{IsMember}
 
 -- no use reads or reaches what a later one reaches
 abbrev pub AreReadFree : Setting → List Use → Type 0

@@ -11,18 +11,20 @@ use Rattle.flat_model.specs.Setting.{Setting, class_of_name, class_ticks}
 use Rattle.flat_model.specs.Uses.{Use}
 use Rattle.flat_model.specs.Given.{Row, with_row, IsKnownToTick, IsClosed, IsGiven}
 use Rattle.flat_model.proofs.OneSolution.{AreSitesUnclocked}
-use Rattle.moment_theory.specs.Order.{IsReachedBy, IsFree, AreInOrder}
+use Rattle.moment_theory.specs.Free.{IsReachedBy}
+use Rattle.moment_theory.proofs.Ordered.{IsFreeUse, AreFreeUses}
 use Rattle.moment_theory.specs.Taken.{AreTaken, AreInputs}
 use Rattle.moment_theory.proofs.Above.{IsBelow}
 use Rattle.moment_theory.proofs.Rows.{row_now}
 use Rattle.moment_theory.proofs.Transfer.{IsSound}
-use Rattle.moment_theory.proofs.Taking.{IsClear, IsMember, unchanged, taken_up, taken_sound, taken_least, taken_closed}
+use Rattle.moment_theory.proofs.Taking.{IsClear, unchanged, taken_up, taken_sound, taken_least, taken_closed}
+use Rattle.moment_theory.proofs.Members.{IsMember}
 
 -- inputs are unclocked
 abbrev pub AreInputsUnclocked : Setting → Type 0
 AreInputsUnclocked s = (x : ℕ) (name : FlatName) → slice_get s.model.names x ≡ Some name → name.input ≡ true → class_of_name s x ≡ None
 
-pub not_input : (s : Setting) (uses : List Use) → AreInOrder s uses → (x : ℕ) → IsReachedBy x uses → (name : FlatName) → slice_get s.model.names x ≡ Some name → name.input ≡ false
+pub not_input : (s : Setting) (uses : List Use) → AreFreeUses s uses → (x : ℕ) → IsReachedBy x uses → (name : FlatName) → slice_get s.model.names x ≡ Some name → name.input ≡ false
 not_input s [] order x reached name found = absurd reached
 not_input s (entry ∷ uses) order x (inr reached) name found = not_input s uses order.1 x reached name found
 not_input s (entry ∷ uses) order x (inl is) name found =
@@ -33,11 +35,11 @@ some_is None some = absurd (false≢true some)
 some_is (Some v) some = (v, refl)
 
 -- two lists of uses with the same entries
-pub record AreSameUses (all uses : List Use) : Type 0 where
+pub record AreSameMembers (all uses : List Use) : Type 0 where
   pub within : (entry : Use) → IsMember entry uses → Contains all entry
   pub whole : (entry : Use) → Contains all entry → IsMember entry uses
 
-module _ (s : Setting) (unclocked : AreSitesUnclocked s) (inputs : AreInputsUnclocked s) (S : Assignment) (m : ℕ) (uses : List Use) (order : AreInOrder s uses) (row : Row) (are : AreInputs s m row) where
+module _ (s : Setting) (unclocked : AreSitesUnclocked s) (inputs : AreInputsUnclocked s) (S : Assignment) (m : ℕ) (uses : List Use) (order : AreFreeUses s uses) (row : Row) (are : AreInputs s m row) where
   pub inputs_clear : IsClear uses row
   inputs_clear y reached = by_value (row y) refl
     where
@@ -51,7 +53,7 @@ module _ (s : Setting) (unclocked : AreSitesUnclocked s) (inputs : AreInputsUncl
       let (name, at, found, input, here) = are.only z v is in
       subst (IsKnownToTick s (with_row S m row) m) (sym (inputs z name found input)) (tt, refl)
 
-  pub taken_given : (all : List Use) (last : Row) → AreSameUses all uses → AreTaken s S m uses row last → IsGiven s S all m last
+  pub taken_given : (all : List Use) (last : Row) → AreSameMembers all uses → AreTaken s S m uses row last → IsGiven s S all m last
   taken_given all last same taken =
       let sound = taken_sound s unclocked S m uses row last order inputs_clear taken inputs_sound in record {
         closed = record {

@@ -16,7 +16,7 @@ use Rattle.flat_model.proofs.Agreement.{tick_before_same, previous_same}
 use Rattle.flat_model.proofs.OneSolution.{AreSitesUnclocked}
 use Rattle.moment_theory.proofs.Above.{IsBelow}
 use Rattle.moment_theory.proofs.Asks.{Asking, OfNow, OfLast, OfPrevious, OfFirst, OfInterval, asked, SameAt, value_rests_on_asked, above_both}
-use Rattle.moment_theory.specs.Order.{SiteReads}
+use Rattle.moment_theory.specs.Free.{SiteReads}
 use Rattle.moment_theory.proofs.Rows.{below_same}
 use Rattle.moment_theory.proofs.Sites.{site_up}
 

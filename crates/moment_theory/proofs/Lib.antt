@@ -4,11 +4,15 @@ pub mod Asks
 pub mod Beside
 pub mod FromOrder
 pub mod FromUses
+pub mod Facts
+pub mod Members
+pub mod Stands
 pub mod GivenByOrder
 pub mod Groups
 pub mod Links
 pub mod Meeting
 pub mod NoSolution
+pub mod Ordered
 pub mod PartsRest
 pub mod Relabel
 pub mod Rows

@@ -24,12 +24,14 @@ use Rattle.flat_model.specs.Uses.{Use, ReadsIn, ClassesMeet}
 use Rattle.flat_model.specs.Given.{Row, with_row, with_value, IsKnownOf, IsKnown, IsKnownToTick, HasLastValue, HasReadIn, HasReadsBut, Solves, CanUse, IsOnlySolution}
 use Rattle.flat_model.proofs.Agreement.{SameBefore, SameUpTo, views_same, meets_same}
 use Rattle.flat_model.proofs.OneSolution.{AreSitesUnclocked}
-use Rattle.moment_theory.specs.Order.{AsksLastIn, IsReachedBy, IsSideFree, IsFree, AreInOrder}
+use Rattle.moment_theory.specs.Free.{AsksLastIn, IsReachedBy}
+use Rattle.moment_theory.proofs.Ordered.{IsFreeSide, IsFreeUse, AreFreeUses}
 use Rattle.moment_theory.specs.Taken.{AreTaken, AreInputs}
 use Rattle.moment_theory.proofs.Rows.{row_now, row_before}
 use Rattle.moment_theory.proofs.Transfer.{IsSound}
-use Rattle.moment_theory.proofs.Taking.{IsMember, unchanged, taken_sound, taken_closed}
+use Rattle.moment_theory.proofs.Taking.{unchanged, taken_sound, taken_closed}
 use Rattle.moment_theory.proofs.GivenByOrder.{AreInputsUnclocked, not_input, inputs_clear, inputs_sound}
+use Rattle.moment_theory.proofs.Members.{IsMember}
 
 -- a name that has values
 pub record IsValued (s : Setting) (y : ℕ) : Type 0 where
@@ -77,7 +79,7 @@ known_of s S m (Some (Event site f g)) sites = sites site f g refl
 some_typed : (s : Setting) (x : ℕ) (o : Option Value) → IsValued s x → HasTyped s x o → IsSome o
 some_typed s x o valued has = let h = has valued.name valued.found in subst IsSome (sym h.1) refl
 
-module _ (s : Setting) (unclocked : AreSitesUnclocked s) (inputs : AreInputsUnclocked s) (classed : AreClassed s) (S : Assignment) (m : ℕ) (uses : List Use) (order : AreInOrder s uses) (whole : AreWhole s uses)
+module _ (s : Setting) (unclocked : AreSitesUnclocked s) (inputs : AreInputsUnclocked s) (classed : AreClassed s) (S : Assignment) (m : ℕ) (uses : List Use) (order : AreFreeUses s uses) (whole : AreWhole s uses)
     (row : Row) (are : AreInputs s m row) (last : Row) (taken : AreTaken s S m uses row last) (at : Moment) (here : moment_at s.instants m ≡ Some at) (table : HasTableValues s at) where
   abbrev T : Assignment
   T = with_row S m last
@@ -114,7 +116,7 @@ module _ (s : Setting) (unclocked : AreSitesUnclocked s) (inputs : AreInputsUncl
         by_tick true e = inr (subst IsSome (sym (row_now S m last y)) (some_typed s y (last y) valued (has y not e valued)))
         by_tick false e = inl (known (class_of_name s y), e)
 
-    has_read : (i x : ℕ) (e : Expr) (later : List Use) (entry : Use) → x ≡ entry.name → IsSideFree s i x e later → IsSideClassed s i e → HasValuesBut (entry ∷ later) → class_ticks s T (class_of_equation s i) m ≡ true
+    has_read : (i x : ℕ) (e : Expr) (later : List Use) (entry : Use) → x ≡ entry.name → IsFreeSide s i x e later → IsSideClassed s i e → HasValuesBut (entry ∷ later) → class_ticks s T (class_of_equation s i) m ≡ true
         → (y : ℕ) → y ≢ x → HasReadIn s T m i e y
     has_read i x e later entry own side of has ticks y other =
         let not : ReadsIn s i e y → IsReachedBy y (entry ∷ later) → ⊥ = λ reads h. elim h [
@@ -128,7 +130,7 @@ module _ (s : Setting) (unclocked : AreSitesUnclocked s) (inputs : AreInputsUncl
         }
 
     -- a use of an equation whose class ticks, where what it reads has values
-    can_use : (entry : Use) (later : List Use) (free : IsFree s entry later) → HasValuesBut (entry ∷ later) → class_ticks s T (class_of_equation s entry.equation) m ≡ true
+    can_use : (entry : Use) (later : List Use) (free : IsFreeUse s entry later) → HasValuesBut (entry ∷ later) → class_ticks s T (class_of_equation s entry.equation) m ≡ true
         → CanUse s T m entry (Valued free.left free.right free.clause) free.name
     can_use entry later free has ticks =
         let of = classed.sides entry.equation free.left free.right free.clause free.equation_is in record {
@@ -150,7 +152,7 @@ module _ (s : Setting) (unclocked : AreSitesUnclocked s) (inputs : AreInputsUncl
       pub only : IsOnlySolution s T m entry.equation equation name entry.name v
       pub is : last entry.name ≡ Some v
 
-    use_value : (entry : Use) (later : List Use) (free : IsFree s entry later) → IsMember entry uses → HasValuesBut (entry ∷ later) → class_ticks s T (class_of_equation s entry.equation) m ≡ true → HasUse entry
+    use_value : (entry : Use) (later : List Use) (free : IsFreeUse s entry later) → IsMember entry uses → HasValuesBut (entry ∷ later) → class_ticks s T (class_of_equation s entry.equation) m ≡ true → HasUse entry
     use_value entry later free member has ticks =
         let can = can_use entry later free has ticks in
         let one = solved entry (Valued free.left free.right free.clause) free.name member can in record {
@@ -166,7 +168,7 @@ module _ (s : Setting) (unclocked : AreSitesUnclocked s) (inputs : AreInputsUncl
     typed_use entry given name found = (given.v, given.is, subst (λ n. IsOfKind n.kind given.v) (same_Some given.name name (sym given.can.name_is ∙ found)) given.only.typed)
 
     -- from the first use to the last
-    go_on : (rest : List Use) → AreInOrder s rest → ((entry : Use) → IsMember entry rest → IsMember entry uses) → HasValuesBut rest → HasValuesBut [] × ((entry : Use) → IsMember entry rest → class_ticks s T (class_of_equation s entry.equation) m ≡ true → HasUse entry)
+    go_on : (rest : List Use) → AreFreeUses s rest → ((entry : Use) → IsMember entry rest → IsMember entry uses) → HasValuesBut rest → HasValuesBut [] × ((entry : Use) → IsMember entry rest → class_ticks s T (class_of_equation s entry.equation) m ≡ true → HasUse entry)
     go_on [] free members has = (has, λ entry member. absurd member)
     go_on (entry ∷ later) free members has =
         let rest = go_on later free.1 (λ e h. members e (inr h)) next in (

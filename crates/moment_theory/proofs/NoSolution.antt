@@ -20,35 +20,27 @@ use Rattle.flat_model.specs.Faults.{SiteFails, EquationFails, SomethingFails}
 use Rattle.flat_model.proofs.Agreement.{SameBefore, SameUpTo, views_same}
 use Rattle.flat_model.proofs.GivenValues.{AreOfOneClass, given_where_met}
 use Rattle.flat_model.proofs.OneSolution.{AreSitesUnclocked, same_where_given}
-use Rattle.moment_theory.specs.Order.{IsReachedBy, IsFree, AreInOrder}
+use Rattle.moment_theory.specs.Free.{IsReachedBy}
+use Rattle.moment_theory.proofs.Ordered.{IsFreeUse, AreFreeUses}
 use Rattle.moment_theory.specs.Taken.{Gives, IsTaken, AreTaken, AreInputs}
 use Rattle.moment_theory.proofs.Above.{IsBelow, Above}
 use Rattle.moment_theory.proofs.Sites.{site_up}
 use Rattle.moment_theory.proofs.Rows.{row_now, row_before}
 use Rattle.moment_theory.proofs.Transfer.{IsSound, can_up, solved_down}
-use Rattle.moment_theory.proofs.Taking.{IsMember, taken_sound}
-use Rattle.moment_theory.proofs.GivenByOrder.{AreInputsUnclocked, AreSameUses, inputs_clear, inputs_sound, taken_given}
+use Rattle.moment_theory.proofs.Taking.{taken_sound}
+use Rattle.moment_theory.proofs.GivenByOrder.{AreInputsUnclocked, AreSameMembers, inputs_clear, inputs_sound, taken_given}
 use Rattle.moment_theory.proofs.Meeting.{with_own_value}
+use Rattle.moment_theory.proofs.Members.{IsMember, contains_member, member_contains}
 
-pub contains_member : (entry : Use) (uses : List Use) → Contains uses entry → IsMember entry uses
-contains_member entry [] (k, lt, e) = absurd (omega arith)
-contains_member entry (first ∷ uses) (zero, lt, e) = inl e
-contains_member entry (first ∷ uses) (suc k, lt, e) = inr (contains_member entry uses (k, omega arith, e))
-
-pub member_contains : (entry : Use) (uses : List Use) → IsMember entry uses → Contains uses entry
-member_contains entry [] h = absurd h
-member_contains entry (first ∷ uses) (inl e) = (0, omega arith, e)
-member_contains entry (first ∷ uses) (inr h) = let (k, lt, e) = member_contains entry uses h in (suc k, omega arith, e)
-
-pub same_uses : (uses : List Use) → AreSameUses uses uses
+pub same_uses : (uses : List Use) → AreSameMembers uses uses
 same_uses uses = record { within = λ entry h. member_contains entry uses h; whole = λ entry h. contains_member entry uses h }
 
-pub free_of : (s : Setting) (uses : List Use) → AreInOrder s uses → (entry : Use) → IsMember entry uses → (later : List Use) × IsFree s entry later
+pub free_of : (s : Setting) (uses : List Use) → AreFreeUses s uses → (entry : Use) → IsMember entry uses → (later : List Use) × IsFreeUse s entry later
 free_of s [] order entry h = absurd h
-free_of s (first ∷ uses) order entry (inl is) = (uses, subst (λ e. IsFree s e uses) is order.0)
+free_of s (first ∷ uses) order entry (inl is) = (uses, subst (λ e. IsFreeUse s e uses) is order.0)
 free_of s (first ∷ uses) order entry (inr h) = free_of s uses order.1 entry h
 
-pub one_class : (s : Setting) (uses : List Use) → AreInOrder s uses → AreOfOneClass s uses
+pub one_class : (s : Setting) (uses : List Use) → AreFreeUses s uses → AreOfOneClass s uses
 one_class s uses order entry h = (free_of s uses order entry (contains_member entry uses h)).1.class_is
 
 pub value_at : (k : NameKind) (ticks : Bool) (o : Option Value) → k ≢ kind.Clock → ticks ≡ true → HasValueAtTicks k ticks o → (w : Value) × (o ≡ Some w) × IsOfKind k w
@@ -82,7 +74,7 @@ taken_again s S U m path (entry ∷ uses) row last (next, step, rest) = (next, a
     again (inl (v, gives, is)) = inl (v, moved S U v (path row) gives, is)
     again (inr (none, is)) = inr (λ v gives. none v (moved U S v (sym (path row)) gives), is)
 
-module _ (s : Setting) (unclocked : AreSitesUnclocked s) (inputs : AreInputsUnclocked s) (S : Assignment) (m : ℕ) (uses : List Use) (order : AreInOrder s uses)
+module _ (s : Setting) (unclocked : AreSitesUnclocked s) (inputs : AreInputsUnclocked s) (S : Assignment) (m : ℕ) (uses : List Use) (order : AreFreeUses s uses)
     (valued : (entry : Use) (name : FlatName) → IsMember entry uses → slice_get s.model.names entry.name ≡ Some name → name.kind ≢ kind.Clock)
     (row : Row) (are : AreInputs s m row) (last : Row) (taken : AreTaken s S m uses row last) (T : Assignment) (same : SameBefore S T m) (there : MeetsAt s T m) where
   abbrev U : Assignment

@@ -21,7 +21,8 @@ use Rattle.flat_model.specs.Given.{Row, with_row, with_value, IsKnownOf, IsKnown
 use Rattle.flat_model.proofs.Dependence.{AgreeOn, sample_count, value_rests}
 use Rattle.flat_model.proofs.Agreement.{SameBefore, SameNow, views_agree}
 use Rattle.flat_model.proofs.OneSolution.{AreSitesUnclocked}
-use Rattle.moment_theory.specs.Order.{SiteReads, AsksLastIn, AreOnOneAxis, IsReachedBy, IsSideFree, IsFree}
+use Rattle.moment_theory.specs.Free.{SiteReads, AsksLastIn, IsReachedBy}
+use Rattle.moment_theory.proofs.Ordered.{AreOnOneAxis, IsFreeSide, IsFreeUse}
 use Rattle.moment_theory.proofs.Above.{IsBelow}
 use Rattle.moment_theory.proofs.Sites.{SameSiteOf, class_ticks_by_site, known_same, still_known, meet_where_tick, not_yet}
 

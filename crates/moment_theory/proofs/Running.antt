@@ -15,20 +15,21 @@ use Rattle.flat_model.specs.Given.{Row, with_row, IsGiven}
 use Rattle.flat_model.specs.Faults.{SomethingFails}
 use Rattle.flat_model.proofs.Agreement.{SameBefore, SameUpTo}
 use Rattle.flat_model.proofs.OneSolution.{AreSitesUnclocked}
-use Rattle.moment_theory.specs.Order.{IsReachedBy, AreInOrder}
+use Rattle.moment_theory.specs.Free.{IsReachedBy}
+use Rattle.moment_theory.proofs.Ordered.{AreFreeUses}
 use Rattle.moment_theory.specs.Taken.{AreTaken, AreInputs}
 use Rattle.moment_theory.proofs.Rows.{row_before}
-use Rattle.moment_theory.proofs.Taking.{IsMember}
 use Rattle.moment_theory.proofs.GivenByOrder.{AreInputsUnclocked}
 use Rattle.moment_theory.proofs.Meeting.{AreClassed, AreWhole, HasTableValues, SitesHold, AllSolved, meets_next}
 use Rattle.moment_theory.proofs.NoSolution.{nothing_fails, same_now}
+use Rattle.moment_theory.proofs.Members.{IsMember}
 
 -- what a model and its order give once and for all
 pub record IsRunnable (s : Setting) (uses : List Use) : Type 0 where
   pub unclocked : AreSitesUnclocked s
   pub inputs : AreInputsUnclocked s
   pub classed : AreClassed s
-  pub order : AreInOrder s uses
+  pub order : AreFreeUses s uses
   pub whole : AreWhole s uses
 
 -- S meets the model before m, and whatever does is the same there

@@ -22,7 +22,8 @@ use Rattle.flat_model.specs.Given.{IsKnownOf, IsKnown, IsKnownToTick}
 use Rattle.flat_model.proofs.Agreement.{SameBefore, SameUpTo, site_same}
 use Rattle.flat_model.proofs.OneSolution.{AreSitesUnclocked}
 use Rattle.flat_model.proofs.Ticks.{is_tick_law}
-use Rattle.moment_theory.specs.Order.{SiteReads, AreOnOneAxis}
+use Rattle.moment_theory.specs.Free.{SiteReads}
+use Rattle.moment_theory.proofs.Ordered.{AreOnOneAxis}
 use Rattle.moment_theory.proofs.Above.{IsBelow, Above, above_refl, RefinesOn, value_up}
 
 answer_in : Views → Option Expr → Answer

@@ -13,11 +13,13 @@ use Rattle.flat_model.specs.Uses.{Use}
 use Rattle.flat_model.specs.Given.{Row, with_row, IsKnownToTick, CanUse, IsOnlySolution, IsClosed, IsGiven, Solves}
 use Rattle.flat_model.proofs.Agreement.{SameBefore}
 use Rattle.flat_model.proofs.OneSolution.{AreSitesUnclocked}
-use Rattle.moment_theory.specs.Order.{SiteReads, IsReachedBy, IsFree, AreInOrder}
+use Rattle.moment_theory.specs.Free.{SiteReads, IsReachedBy}
+use Rattle.moment_theory.proofs.Ordered.{IsFreeUse, AreFreeUses}
 use Rattle.moment_theory.specs.Taken.{put, Gives, IsTaken, AreTaken, AreInputs}
 use Rattle.moment_theory.proofs.Above.{IsBelow}
 use Rattle.moment_theory.proofs.Rows.{row_now, row_before, below_refl, below_same}
 use Rattle.moment_theory.proofs.Transfer.{IsSound, Needs, needs_earlier, known_up, can_up, only_up}
+use Rattle.moment_theory.proofs.Members.{IsMember}
 
 pub put_same : (row : Row) (x : ℕ) (v : Value) → put row x v x ≡ Some v
 put_same row x v = ap (λ b. if b then Some v else row x) (eq-eqb x x refl)
@@ -28,15 +30,6 @@ put_other row x v y other = ap (λ b. if b then Some v else row y) (ne_eqb y x o
 -- no value of a name that is still to be reached
 abbrev pub IsClear : List Use → Row → Type 0
 IsClear uses row = (y : ℕ) → IsReachedBy y uses → row y ≡ None
-
-Contains-cases : {A : Type 0} (x y : A) (xs : List A) → Contains (x ∷ xs) y → (x ≡ y) ⊎ Contains xs y
-Contains-cases x y xs (zero, lt, e) = inl e
-Contains-cases x y xs (suc k, lt, e) = inr (k, omega arith, e)
-
--- an entry of a list
-abbrev pub IsMember : Use → List Use → Type 0
-IsMember entry [] = ⊥
-IsMember entry (first ∷ uses) = (first ≡ entry) ⊎ IsMember entry uses
 
 none_below : (o p : Option Value) → o ≡ None → IsBelow o p
 none_below o p e = subst (λ z. IsBelow z p) (sym e) tt
@@ -62,7 +55,7 @@ module _ (s : Setting) (unclocked : AreSitesUnclocked s) (S : Assignment) (m : �
     | inr other ↦ below_same (row y) (next y) (sym (step_other entry row next taken y other))
   ]
 
-  pub step_clear : (entry : Use) (later : List Use) (row next : Row) → IsFree s entry later → IsClear (entry ∷ later) row → IsTaken s S m entry row next → IsClear later next
+  pub step_clear : (entry : Use) (later : List Use) (row next : Row) → IsFreeUse s entry later → IsClear (entry ∷ later) row → IsTaken s S m entry row next → IsClear later next
   step_clear entry later row next free clear taken y reached =
       step_other entry row next taken y (λ is. free.once (subst (λ z. IsReachedBy z later) is reached)) ∙ clear y (inr reached)
 
@@ -75,7 +68,7 @@ module _ (s : Setting) (unclocked : AreSitesUnclocked s) (S : Assignment) (m : �
   over_some : (row : Row) (y : ℕ) → IsSome (row y) → IsSome (over row y m)
   over_some row y some = subst IsSome (sym (row_now S m row y)) some
 
-  pub step_sound : (entry : Use) (later : List Use) (row next : Row) → IsFree s entry later → row entry.name ≡ None → IsTaken s S m entry row next → IsSound s (over row) m → IsSound s (over next) m
+  pub step_sound : (entry : Use) (later : List Use) (row next : Row) → IsFreeUse s entry later → row entry.name ≡ None → IsTaken s S m entry row next → IsSound s (over row) m → IsSound s (over next) m
   step_sound entry later row next free clear taken sound z some =
       let up = step_up entry row next clear taken in elim (cases_eq z entry.name) [
         | inl is ↦ subst (λ c. IsKnownToTick s (over next) m (class_of_name s c)) (sym is) (own taken (subst (λ c. IsSome (next c)) is (some_over next z some)))
@@ -93,7 +86,7 @@ module _ (s : Setting) (unclocked : AreSitesUnclocked s) (S : Assignment) (m : �
   unchanged (entry ∷ uses) row last (next, step, rest) y not =
       unchanged uses next last rest y (λ h. not (inr h)) ∙ step_other entry row next step y (λ is. not (inl is))
 
-  pub taken_up : (uses : List Use) (row last : Row) → AreInOrder s uses → IsClear uses row → AreTaken s S m uses row last → (y : ℕ) → IsBelow (row y) (last y)
+  pub taken_up : (uses : List Use) (row last : Row) → AreFreeUses s uses → IsClear uses row → AreTaken s S m uses row last → (y : ℕ) → IsBelow (row y) (last y)
   taken_up [] row last order clear taken y = below_same (row y) (last y) (sym (taken y))
   taken_up (entry ∷ uses) row last order clear (next, step, rest) y =
       trans (row y) (next y) (last y) (step_up entry row next (clear entry.name (inl refl)) step y)
@@ -103,14 +96,14 @@ module _ (s : Setting) (unclocked : AreSitesUnclocked s) (S : Assignment) (m : �
       trans None p q h k = tt
       trans (Some v) p q h k = subst (λ z. IsBelow z q) h k
 
-  pub taken_sound : (uses : List Use) (row last : Row) → AreInOrder s uses → IsClear uses row → AreTaken s S m uses row last → IsSound s (over row) m → IsSound s (over last) m
+  pub taken_sound : (uses : List Use) (row last : Row) → AreFreeUses s uses → IsClear uses row → AreTaken s S m uses row last → IsSound s (over row) m → IsSound s (over last) m
   taken_sound [] row last order clear taken sound = λ z some.
       sound_up row last (class_of_name s z) (λ y. below_same (row y) (last y) (sym (taken y))) (sound z (over_some row z (subst IsSome (taken z) (some_over last z some))))
   taken_sound (entry ∷ uses) row last order clear (next, step, rest) sound =
       taken_sound uses next last order.1 (step_clear entry uses row next order.0 clear step) rest (step_sound entry uses row next order.0 (clear entry.name (inl refl)) step sound)
 
   -- each value that is taken is in every row that is closed
-  pub taken_least : (all uses : List Use) (row last other : Row) → ((entry : Use) → IsMember entry uses → Contains all entry) → AreInOrder s uses → IsClear uses row → AreTaken s S m uses row last → IsSound s (over row) m
+  pub taken_least : (all uses : List Use) (row last other : Row) → ((entry : Use) → IsMember entry uses → Contains all entry) → AreFreeUses s uses → IsClear uses row → AreTaken s S m uses row last → IsSound s (over row) m
       → IsClosed s S all m other → ((y : ℕ) → IsBelow (row y) (other y)) → (y : ℕ) → IsBelow (last y) (other y)
   taken_least all [] row last other within order clear taken sound closed up = λ y. subst (λ o. IsBelow o (other y)) (sym (taken y)) (up y)
   taken_least all (entry ∷ uses) row last other within order clear (next, step, rest) sound closed up =
@@ -129,7 +122,7 @@ module _ (s : Setting) (unclocked : AreSitesUnclocked s) (S : Assignment) (m : �
       ]
 
   -- each use that gives a value over the last row gave it when it was taken
-  pub taken_closed : (uses : List Use) (row last : Row) → AreInOrder s uses → AreTaken s S m uses row last → IsSound s (over last) m
+  pub taken_closed : (uses : List Use) (row last : Row) → AreFreeUses s uses → AreTaken s S m uses row last → IsSound s (over last) m
       → (entry : Use) (equation : Equation) (name : FlatName) (v : Value) → IsMember entry uses → CanUse s (over last) m entry equation name
       → IsOnlySolution s (over last) m entry.equation equation name entry.name v → last entry.name ≡ Some v
   taken_closed [] row last order taken sound entry equation name v within can only = absurd within

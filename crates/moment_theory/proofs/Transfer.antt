@@ -15,7 +15,8 @@ use Rattle.flat_model.specs.Uses.{Use, ReadsIn}
 use Rattle.flat_model.specs.Given.{IsKnown, IsKnownToTick, HasReadIn, HasReadsBut, Solves, IsOnlySolution, CanUse, with_value}
 use Rattle.flat_model.proofs.Agreement.{SameBefore}
 use Rattle.flat_model.proofs.OneSolution.{AreSitesUnclocked}
-use Rattle.moment_theory.specs.Order.{SiteReads, AsksLastIn, IsReachedBy, IsSideFree, IsFree}
+use Rattle.moment_theory.specs.Free.{SiteReads, AsksLastIn, IsReachedBy}
+use Rattle.moment_theory.proofs.Ordered.{IsFreeSide, IsFreeUse}
 use Rattle.moment_theory.proofs.Above.{IsBelow}
 use Rattle.moment_theory.proofs.Sites.{SameSiteOf, class_ticks_by_site, known_same, still_known}
 use Rattle.moment_theory.proofs.Rows.{IsSideUp, read_up, side_same, below_same}
@@ -32,13 +33,13 @@ known_up s A B m class unclocked same up counts =
     (still_known s A B m class counts.0 site, sym (class_ticks_by_site s A B class m same site) ∙ counts.1)
 
 -- what decides whether a use counts, and what it gives, is a value of y
-abbrev pub Needs : (s : Setting) (entry : Use) (later : List Use) → IsFree s entry later → ℕ → Type 0
+abbrev pub Needs : (s : Setting) (entry : Use) (later : List Use) → IsFreeUse s entry later → ℕ → Type 0
 Needs s entry later free y = (y ≢ entry.name × (ReadsIn s entry.equation free.left y ⊎ ReadsIn s entry.equation free.right y))
     ⊎ SiteReads s (class_of_equation s entry.equation) y
     ⊎ ((z : ℕ) × (AsksLastIn free.left z ⊎ AsksLastIn free.right z) × SiteReads s (class_of_name s z) y)
 
 -- a value that is needed is not still to be reached
-pub needs_earlier : (s : Setting) (entry : Use) (later : List Use) (free : IsFree s entry later) (y : ℕ) → Needs s entry later free y → (y ≡ entry.name) ⊎ IsReachedBy y later → ⊥
+pub needs_earlier : (s : Setting) (entry : Use) (later : List Use) (free : IsFreeUse s entry later) (y : ℕ) → Needs s entry later free y → (y ≡ entry.name) ⊎ IsReachedBy y later → ⊥
 needs_earlier s entry later free y (inl (other, reads)) (inl is) = other is
 needs_earlier s entry later free y (inl (other, inl reads)) (inr reached) = free.left_free.reads y reads reached
 needs_earlier s entry later free y (inl (other, inr reads)) (inr reached) = free.right_free.reads y reads reached
@@ -46,7 +47,7 @@ needs_earlier s entry later free y (inr (inl reads)) h = free.site y reads h
 needs_earlier s entry later free y (inr (inr (z, inl asks, reads))) h = free.left_free.sites z y asks reads h
 needs_earlier s entry later free y (inr (inr (z, inr asks, reads))) h = free.right_free.sites z y asks reads h
 
-module _ (s : Setting) (unclocked : AreSitesUnclocked s) (A B : Assignment) (m : ℕ) (same : SameBefore A B m) (entry : Use) (later : List Use) (free : IsFree s entry later)
+module _ (s : Setting) (unclocked : AreSitesUnclocked s) (A B : Assignment) (m : ℕ) (same : SameBefore A B m) (entry : Use) (later : List Use) (free : IsFreeUse s entry later)
     (up : (y : ℕ) → Needs s entry later free y → IsBelow (A y m) (B y m)) (sound : IsSound s A m) where
   abbrev i : ℕ
   i = entry.equation
@@ -58,7 +59,7 @@ module _ (s : Setting) (unclocked : AreSitesUnclocked s) (A B : Assignment) (m :
   own = Valued free.left free.right free.clause
 
   side_up : (e : Expr) → ((y : ℕ) → ReadsIn s i e y → ReadsIn s i free.left y ⊎ ReadsIn s i free.right y) → ((z : ℕ) → AsksLastIn e z → AsksLastIn free.left z ⊎ AsksLastIn free.right z)
-      → IsSideFree s i x e later → IsSideUp s unclocked A B m same i x e
+      → IsFreeSide s i x e later → IsSideUp s unclocked A B m same i x e
   side_up e reads asks side = record {
     reads = λ y other r. up y (inl (other, reads y r));
     sites = λ z y a r. up y (inr (inr (z, asks z a, r)));

@@ -14,7 +14,7 @@ use Rattle.flat_model.specs.Setting.{Setting, clock_of, site_answer, is_true, ri
 use Rattle.flat_model.specs.Given.{IsKnownOf, IsKnown}
 use Rattle.flat_model.proofs.OneSolution.{AreSitesUnclocked}
 use Rattle.moment_theory.proofs.Asks.{above_both}
-use Rattle.moment_theory.specs.Order.{SiteReads}
+use Rattle.moment_theory.specs.Free.{SiteReads}
 use Rattle.moment_theory.proofs.Rows.{below_same}
 use Rattle.moment_theory.proofs.Sites.{SameSiteOf, site_up}
 

@@ -1,3 +1,3 @@
-pub mod Order
+pub mod Free
 pub mod Taken
 pub mod Laws
