@@ -7,6 +7,8 @@ pub mod FromUses
 pub mod Facts
 pub mod Members
 pub mod Stands
+pub mod Sums
+pub mod Alone
 pub mod GivenByOrder
 pub mod Groups
 pub mod Links

@@ -41,7 +41,7 @@ module _ (x : ℕ) where
   abbrev pub count : Expr → ℕ
   count e = asked e 0 (OfNow x)
 
-  same_without : (e : Expr) (v w : Views) → count e ≡ 0 → SameBut (asked e) v w → value_of e v ≡ value_of e w
+  pub same_without : (e : Expr) (v w : Views) → count e ≡ 0 → SameBut (asked e) v w → value_of e v ≡ value_of e w
   same_without e v w none same = value_rests_on_asked e v w (λ d q some. same d q some (λ is. absurd (clash d q is.0 is.1 some)))
     where
       clash : (d : ℕ) (q : Asking) → d ≡ 0 → q ≡ OfNow x → 0 < asked e d q → ⊥
