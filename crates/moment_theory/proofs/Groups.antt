@@ -55,7 +55,7 @@ unfolding ticks_in
 in_local s S T k None same = refl
 in_local s S T k (Some clock) same = clock_local s S T k (moment_at s.instants k) clock (λ a f g j e le. same a f g j (ap Some e) le)
 
-interval_same : (s : Setting) (f g : ℕ → Bool) (k : ℕ) (clock : Option Clock) → ((j : ℕ) → j < k → f j ≡ g j) → interval_at s f k clock ≡ interval_at s g k clock
+pub interval_same : (s : Setting) (f g : ℕ → Bool) (k : ℕ) (clock : Option Clock) → ((j : ℕ) → j < k → f j ≡ g j) → interval_at s f k clock ≡ interval_at s g k clock
 interval_same s f g k None same = refl
 interval_same s f g k (Some (Periodic period start)) same = refl
 interval_same s f g k (Some (Event site factor shift)) same =

@@ -8,6 +8,7 @@ pub mod Facts
 pub mod Members
 pub mod Stands
 pub mod Sums
+pub mod Solutions
 pub mod Alone
 pub mod GivenByOrder
 pub mod Groups

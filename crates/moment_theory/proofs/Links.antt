@@ -221,3 +221,7 @@ plain = ind-Expr (λ c. Unit {0}) IsPlain (λ a b is. tt) (λ a y is. subst (λ 
 -- an expression whose samples are plain asks for values and last values of the moment before, and for nothing earlier
 pub asked_before : (e : Expr) → samples_are_plain e ≡ true → (d : ℕ) (q : Asking) → 0 < asked e (suc d) q → (d ≡ 0) × IsSampled q
 asked_before e stand = (plain e).now stand
+
+-- an expression that may stand in a `sample` asks for values and last values of the moment itself, and for nothing earlier
+pub asked_left : (e : Expr) → may_stand e Left ≡ true → (d : ℕ) (q : Asking) → 0 < asked e d q → (d ≡ 0) × IsSampled q
+asked_left e stand = (plain e).left stand

@@ -1,0 +1,131 @@
+-- No use has two solutions at a moment at which it counts.
+use Rattle.std.proofs.Common.{◌≡◌, ◌≢◌, refl, ap, ◌∙◌, sym, subst, ℕ, zero, suc, ◌+◌, ◌-◌, ◌<◌, ◌≤◌, true, Option, Some, None, is_none, arith, ◌⊎◌, inl, inr}
+use Rattle.sync_values.specs.declared.value.Value.{Value}
+use Rattle.flat_model.specs.declared.equation.Equation.TheVariants.{Valued}
+use Rattle.flat_model.specs.declared.expression.Expr.{Expr}
+use Rattle.flat_model.specs.Occurrences.{bare_count, held_count, converted_count, is_reached}
+use Rattle.flat_model.specs.Operators.{Answer, Is}
+use Rattle.flat_model.specs.Views.{View, Views}
+use Rattle.flat_model.specs.Meaning.{value_of}
+use Rattle.flat_model.specs.Assignment.{Assignment}
+use Rattle.flat_model.specs.Setting.{Setting, class_of_name, class_of_equation, clock_of, start_of, class_ticks, name_ticks, interval_at, view_at, views_at}
+use Rattle.flat_model.specs.Given.{with_value, Solves}
+use Rattle.flat_model.specs.Uses.{Use, IsSolvableFor}
+use Rattle.flat_model.proofs.Agreement.{SameBefore, SameUpTo, class_ticks_same, tick_before_same, previous_same, last_same, view_same}
+use Rattle.flat_model.proofs.OneSolution.{AreSitesUnclocked}
+use Rattle.moment_theory.specs.Free.{SiteReads, AsksLastIn}
+use Rattle.moment_theory.proofs.Asks.{Asking, OfNow, OfLast, OfPrevious, OfFirst, OfInterval, asked, SameAt}
+use Rattle.moment_theory.proofs.Links.{asked_bare, asked_last}
+use Rattle.moment_theory.proofs.PartsRest.{SameBut, same_without}
+use Rattle.moment_theory.proofs.Alone.{is_formed, alone}
+use Rattle.moment_theory.proofs.Groups.{interval_same}
+use Rattle.moment_theory.proofs.Rows.{value_now, value_other, value_before, unclocked_at_first}
+use Rattle.moment_theory.proofs.Sites.{class_ticks_by_site}
+use Rattle.moment_theory.proofs.Stands.{stands_bare}
+use Rattle.moment_theory.proofs.Unknown.{site_same}
+
+same_value : (v w : Value) → Some v ≡ Some w → v ≡ w
+same_value v w e = cc
+
+same_answer : (v w : Value) → Is v ≡ Is w → v ≡ w
+same_answer v w e = cc
+
+-- what decides that one side of a use sees the same but for its name
+pub record IsSideOnce (s : Setting) (i x : ℕ) (e : Expr) : Type 0 where
+  pub own : AsksLastIn e x → ⊥
+  pub sites : (z : ℕ) → AsksLastIn e z → SiteReads s (class_of_name s z) x → ⊥
+  pub early : class_of_equation s i ≡ None → (d : ℕ) (q : Asking) → 0 < asked e (suc d) q → ⊥
+  pub formed : is_formed e ≡ true
+
+module _ (s : Setting) (unclocked : AreSitesUnclocked s) (S : Assignment) (m i x : ℕ) (ticks : class_ticks s S (class_of_equation s i) m ≡ true) (v w : Value) where
+  abbrev A : Assignment
+  A = with_value S m x v
+
+  abbrev B : Assignment
+  B = with_value S m x w
+
+  abbrev class : Option ℕ
+  class = class_of_equation s i
+
+  same : SameBefore A B m
+  same y k lt = value_before S m x v y k lt ∙ sym (value_before S m x w y k lt)
+
+  other_same : (y : ℕ) → y ≢ x → A y m ≡ B y m
+  other_same y other = value_other S m x v y other ∙ sym (value_other S m x w y other)
+
+  ticks_earlier : (c : Option ℕ) (j : ℕ) → j < m → class_ticks s A c j ≡ class_ticks s B c j
+  ticks_earlier c j lt = class_ticks_same s A B c j j (λ y n le. same y n (omega (arith, le, lt))) (omega arith)
+
+  ticks_alike : (z : ℕ) → (SiteReads s (class_of_name s z) x → ⊥) → name_ticks s A z m ≡ name_ticks s B z m
+  ticks_alike z not = class_ticks_by_site s A B (class_of_name s z) m same
+      (site_same s A B m (class_of_name s z) unclocked (λ y reads. other_same y (λ is. not (subst (SiteReads s (class_of_name s z)) is reads))))
+
+  at_field : (q : Asking) (a b : View) → a ≡ b → SameAt (λ back. a) (λ back. b) 0 q
+  at_field (OfNow y) a b e = ap (λ view. view.now y) e
+  at_field (OfLast y) a b e = ap (λ view. view.last y) e
+  at_field (OfPrevious y) a b e = ap (λ view. view.previous y) e
+  at_field OfFirst a b e = ap (λ view. view.first) e
+  at_field OfInterval a b e = ap (λ view. view.interval) e
+
+  at_back : (q : Asking) (a b : Views) (d : ℕ) → SameAt (λ back. a d) (λ back. b d) 0 q → SameAt a b d q
+  at_back (OfNow y) a b d h = h
+  at_back (OfLast y) a b d h = h
+  at_back (OfPrevious y) a b d h = h
+  at_back OfFirst a b d h = h
+  at_back OfInterval a b d h = h
+
+  -- at an earlier moment nothing differs
+  back_same : (k d : ℕ) (q : Asking) → m ≡ suc k → SameAt (views_at s A class m) (views_at s B class m) (suc d) q
+  back_same k d q at = at_back q (views_at s A class m) (views_at s B class m) (suc d)
+      (at_field q (view_at s A class (m - suc d)) (view_at s B class (m - suc d)) (view_same s A B class k (m - suc d) (λ y n le. same y n (omega (arith, le, at))) (omega (arith, at))))
+
+  module _ (e : Expr) (side : IsSideOnce s i x e) where
+    last_here : (y k : ℕ) → k ≡ m → AsksLastIn e y → (view_at s A class k).last y ≡ (view_at s B class k).last y
+    last_here y k at asks = subst (λ n. (view_at s A class n).last y ≡ (view_at s B class n).last y) (sym at)
+        (last_same (name_ticks s A y) (name_ticks s B y) (A y) (B y) (start_of s y) m (ticks_alike y (side.sites y asks))
+        (λ t. other_same y (λ is. side.own (subst (AsksLastIn e) is asks))) (λ j lt. ticks_earlier (class_of_name s y) j lt) (λ j lt. same y j lt))
+
+    asks_last : (y : ℕ) → 0 < asked e 0 (OfLast y) → AsksLastIn e y
+    asks_last y some = by_count (held_count y e) refl
+      where
+        by_count : (n : ℕ) → held_count y e ≡ n → AsksLastIn e y
+        by_count zero none = let total = asked_last y e in inr (omega (arith, some, total, none))
+        by_count (suc n) one = inl (omega (arith, one))
+
+    same_but : SameBut x (asked e) (views_at s A class m) (views_at s B class m)
+    same_but (suc d) q some other = by_moment m refl
+      where
+        by_moment : (n : ℕ) → m ≡ n → SameAt (views_at s A class m) (views_at s B class m) (suc d) q
+        by_moment zero at = absurd (side.early (unclocked_at_first s S class (subst (λ k. class_ticks s S class k ≡ true) at ticks)) d q some)
+        by_moment (suc k) at = back_same k d q at
+    same_but zero (OfNow y) some other = subst (λ k. A y k ≡ B y k) (let h : m ≡ m - 0 = omega arith in h) (other_same y (λ is. other (refl, ap OfNow is)))
+    same_but zero (OfLast y) some other = last_here y (m - 0) (omega arith) (asks_last y some)
+    same_but zero (OfPrevious y) some other =
+        previous_same (name_ticks s A y) (name_ticks s B y) (A y) (B y) (start_of s y) (m - 0) (λ j lt. ticks_earlier (class_of_name s y) j (omega (arith, lt))) (λ j lt. same y j (omega (arith, lt)))
+    same_but zero OfFirst some other = ap is_none (tick_before_same (class_ticks s A class) (class_ticks s B class) (m - 0) (λ j lt. ticks_earlier class j (omega (arith, lt))))
+    same_but zero OfInterval some other = interval_same s (class_ticks s A class) (class_ticks s B class) (m - 0) (clock_of s class) (λ j lt. ticks_earlier class j (omega (arith, lt)))
+
+  -- the side with the name, where the other side has the same value with both
+  one_side : (e : Expr) → IsSideOnce s i x e → is_reached x e ≡ true → bare_count x e ≤ 1 → (c : Value) → value_of e (views_at s A class m) ≡ Is c → value_of e (views_at s B class m) ≡ Is c → v ≡ w
+  one_side e side reached few c one two =
+      let now = alone x e reached (let same_count = asked_bare x e in omega (arith, few, same_count)) side.formed (views_at s A class m) (views_at s B class m) (same_but e side) c one two in
+      let here : A x m ≡ B x m = subst (λ k. A x k ≡ B x k) (let h : m - 0 ≡ m = omega arith in h) now in
+      same_value v w (sym (value_now S m x v) ∙ here ∙ value_now S m x w)
+
+  unread : (e : Expr) → IsSideOnce s i x e → bare_count x e ≡ 0 → value_of e (views_at s A class m) ≡ value_of e (views_at s B class m)
+  unread e side none = same_without x e _ _ (let same_count = asked_bare x e in omega (arith, none, same_count)) (same_but e side)
+
+  pub one_solution : (left right : Expr) (clause : Option ℕ) → IsSolvableFor x (Valued left right clause) → IsSideOnce s i x left → IsSideOnce s i x right
+      → Solves s S m i (Valued left right clause) x v → Solves s S m i (Valued left right clause) x w → v ≡ w
+  one_solution left right clause solvable side_left side_right (a, left_a, right_a) (b, left_b, right_b) = elim solvable.1 [
+    | inl reached ↦
+        let bare = stands_bare x left reached in
+        let same_right = unread right side_right (let total = solvable.0 in omega (arith, bare, total)) in
+        let results : a ≡ b = same_answer a b (sym right_a ∙ same_right ∙ right_b) in
+        one_side left side_left reached (let total = solvable.0 in omega (arith, total)) a left_a (left_b ∙ ap Is (sym results))
+    | inr reached ↦
+        let bare = stands_bare x right reached in
+        let same_left = unread left side_left (let total = solvable.0 in omega (arith, bare, total)) in
+        let results : a ≡ b = same_answer a b (sym left_a ∙ same_left ∙ left_b) in
+        one_side right side_right reached (let total = solvable.0 in omega (arith, total)) a right_a (right_b ∙ ap Is (sym results))
+  ]
