@@ -15,7 +15,8 @@ use Rattle.flat_model.specs.Operators.{Answer, Is, read, joined, chained, chain}
 use Rattle.flat_model.specs.Views.{Views}
 use Rattle.flat_model.specs.Meaning.{Meaning, meaning_of_level, seen_by, value_of}
 use Rattle.moment_theory.proofs.Above.{value_of_roll}
-use Rattle.moment_theory.proofs.Asks.{Asking, OfNow, Asked, asked, asked_in_level, asked_roll, all_asked, SameAt}
+use Rattle.flat_model.specs.Asks.{Asking, OfNow, Asked, asked, asked_in_level, all_asked}
+use Rattle.moment_theory.proofs.Asks.{asked_roll, SameAt}
 use Rattle.moment_theory.proofs.Links.{asked_bare}
 use Rattle.moment_theory.proofs.PartsRest.{SameBut, same_without}
 use Rattle.moment_theory.proofs.Stands.{stands_bare}

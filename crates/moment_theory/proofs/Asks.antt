@@ -13,70 +13,8 @@ use Rattle.flat_model.specs.Occurrences.{one_if}
 use Rattle.flat_model.specs.Operators.{Answer, Is, Fails, Absent, read, settled}
 use Rattle.flat_model.specs.Views.{Views, before}
 use Rattle.flat_model.specs.Meaning.{Meaning, meaning_of_level, seen_by, whole_of, value_of}
+use Rattle.flat_model.specs.Asks.{Asking, OfNow, OfLast, OfPrevious, OfFirst, OfInterval, Asked, asked, asked_in_level, all_asked}
 use Rattle.moment_theory.proofs.Above.{IsBelow, Above, AllAbove, above_same, read_up, chain_up, negated_up, inverted_up, relation_up, chosen_up, called_up, value_of_roll}
-
--- what may be asked for at one moment
-pub data Asking : Type 0 where
-  OfNow : (x : ℕ) → Asking
-  OfLast : (x : ℕ) → Asking
-  OfPrevious : (x : ℕ) → Asking
-  OfFirst : Asking
-  OfInterval : Asking
-
-abbrev is_now : ℕ → Asking → ℕ
-is_now y (OfNow x) = one_if (y == x)
-is_now y _ = 0
-
-abbrev is_last : ℕ → Asking → ℕ
-is_last y (OfLast x) = one_if (y == x)
-is_last y _ = 0
-
-abbrev is_previous : ℕ → Asking → ℕ
-is_previous y (OfPrevious x) = one_if (y == x)
-is_previous y _ = 0
-
-abbrev is_first : Asking → ℕ
-is_first OfFirst = 1
-is_first _ = 0
-
-abbrev is_interval : Asking → ℕ
-is_interval OfInterval = 1
-is_interval _ = 0
-
--- how often it is asked for, so many moments back
-abbrev pub Asked : Type 0
-Asked = ℕ → Asking → ℕ
-
-abbrev here : (Asking → ℕ) → Asked
-here f zero q = f q
-here f (suc d) q = 0
-
-abbrev earlier : Asked → Asked
-earlier part zero q = 0
-earlier part (suc d) q = part d q
-
-abbrev pub all_asked : List Asked → Asked
-all_asked [] d q = 0
-all_asked (part ∷ parts) d q = part d q + all_asked parts d q
-
-abbrev pub asked_in_level : Expr-F (Unit {0}) Asked → Asked
-asked_in_level (Expr-F.Const v) d q = 0
-asked_in_level (Expr-F.Read x) d q = here (is_now x) d q
-asked_in_level (Expr-F.Chain parts ops) d q = all_asked parts d q
-asked_in_level (Expr-F.Relation rel left right) d q = left d q + right d q
-asked_in_level (Expr-F.Neg part) d q = part d q
-asked_in_level (Expr-F.Not part) d q = part d q
-asked_in_level (Expr-F.If conditions branches other) d q = all_asked conditions d q + all_asked branches d q + other d q
-asked_in_level (Expr-F.Apply function parts) d q = all_asked parts d q
-asked_in_level (Expr-F.Previous x) d q = here (is_previous x) d q
-asked_in_level (Expr-F.FirstTick x) d q = here is_first d q
-asked_in_level (Expr-F.IntervalTimes x k) d q = here is_interval d q
-asked_in_level (Expr-F.Hold x) d q = here (is_last x) d q
-asked_in_level (Expr-F.«Expr::Convert» conversion x) d q = here (is_last x) d q
-asked_in_level (Expr-F.Sample part clock) d q = earlier part d q
-
-unfoldable pub asked : Expr → Asked
-asked = fold-Expr (Unit {0}) Asked (λ _. tt) asked_in_level
 
 -- what is asked for is there in the second views where it is in the first
 abbrev pub StaysAt : Views → Views → ℕ → Asking → Type 0

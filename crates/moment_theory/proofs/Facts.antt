@@ -7,15 +7,15 @@ use Rattle.flat_model.specs.declared.equation.Equation.TheVariants.{Valued, Cloc
 use Rattle.flat_model.specs.declared.expression.Expr.{Expr}
 use Rattle.flat_model.specs.declared.model.FlatName.{FlatName}
 use Rattle.flat_model.specs.declared.model.NameKind.TheVariants as kind
-use Rattle.flat_model.specs.Occurrences.{bare_count, held_count, converted_count, is_reached}
+use Rattle.flat_model.specs.Occurrences.{bare_count, held_count, converted_count, is_reached, sample_count}
 use Rattle.flat_model.specs.Moments.{moment_at}
 use Rattle.flat_model.specs.declared.clock.Moment.{Moment}
 use Rattle.flat_model.specs.Setting.{Setting, class_of_name, class_of_equation, clock_of}
-use Rattle.flat_model.specs.Uses.{Use, ReadsIn, EquationReads, Reads, IsSolvableFor, IsUnreached, CanReach, IsNextUse, AreUsesAfter, AreUses}
-use Rattle.flat_model.proofs.Dependence.{sample_count}
+use Rattle.flat_model.specs.Uses.{Use, ReadsIn, EquationReads, Reads, IsSolvableFor, IsUnreached, CanReach, IsNextUse, AreUsesAfter, AreUses, SiteReads}
 use Rattle.flat_model.proofs.OneSolution.{AreSitesUnclocked}
-use Rattle.moment_theory.specs.Free.{SiteReads, AsksLastIn, AsksLast, AsksClass, IsReachedBy, IsFree, AreFree, AreSameUses}
-use Rattle.moment_theory.proofs.Ordered.{AreOnOneAxis, IsFreeSide, IsFreeUse, AreFreeUses}
+use Rattle.moment_theory.specs.Free.{AsksLastIn, AsksLast, AsksClass, IsReachedBy, IsFree, AreFree, AreSameUses}
+use Rattle.flat_model.specs.Clocks.{AreOnOneAxis}
+use Rattle.moment_theory.proofs.Ordered.{IsFreeSide, IsFreeUse, AreFreeUses}
 use Rattle.moment_theory.proofs.GivenByOrder.{AreInputsUnclocked, AreSameMembers}
 use Rattle.moment_theory.proofs.Meeting.{AreClassed, HasTableValues}
 use Rattle.moment_theory.proofs.Members.{IsMember, contains_member, member_contains}

@@ -4,12 +4,12 @@ use Rattle.flat_model.specs.declared.equation.Equation.{Equation}
 use Rattle.flat_model.specs.declared.equation.Equation.TheVariants.{Valued}
 use Rattle.flat_model.specs.declared.expression.Expr.{Expr}
 use Rattle.flat_model.specs.declared.model.FlatName.{FlatName}
-use Rattle.flat_model.specs.Occurrences.{converted_count}
+use Rattle.flat_model.specs.Occurrences.{converted_count, sample_count}
 use Rattle.flat_model.specs.Setting.{Setting, class_of_name, class_of_equation, clock_of}
-use Rattle.flat_model.specs.Uses.{Use, ReadsIn}
-use Rattle.flat_model.proofs.Dependence.{sample_count}
-use Rattle.moment_theory.specs.Free.{SiteReads, AsksLastIn, IsReachedBy}
-use Rattle.moment_theory.proofs.Ordered.{AreOnOneAxis, IsFreeSide, IsFreeUse, AreFreeUses}
+use Rattle.flat_model.specs.Uses.{Use, ReadsIn, SiteReads}
+use Rattle.moment_theory.specs.Free.{AsksLastIn, IsReachedBy}
+use Rattle.flat_model.specs.Clocks.{AreOnOneAxis}
+use Rattle.moment_theory.proofs.Ordered.{IsFreeSide, IsFreeUse, AreFreeUses}
 use Rattle.moment_theory.proofs.FromUses.{AreReadFree}
 use Rattle.moment_theory.proofs.Members.{IsMember}
 

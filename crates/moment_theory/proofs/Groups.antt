@@ -11,12 +11,13 @@ use Rattle.flat_model.specs.Meaning.{value_of}
 use Rattle.flat_model.specs.Moments.{moment_at}
 use Rattle.flat_model.specs.Occurrences.{bare_count}
 use Rattle.flat_model.specs.Assignment.{Assignment, tick_before, last_value, previous_value}
-use Rattle.flat_model.specs.Setting.{Setting, class_of_name, clock_of, start_of, site_answer, is_true, is_false, rises, risings_before, clock_ticks, class_ticks, name_ticks, time_between, interval_at, views_at}
+use Rattle.flat_model.specs.Setting.{Setting, class_of_name, clock_of, start_of, site_answer, is_true, is_false, rises, risings_before, clock_ticks, class_ticks, name_ticks, time_between, interval_at, views_at, ticks_in}
 use Rattle.flat_model.proofs.Agreement.{tick_before_same, previous_same}
 use Rattle.flat_model.proofs.OneSolution.{AreSitesUnclocked}
 use Rattle.moment_theory.proofs.Above.{IsBelow}
-use Rattle.moment_theory.proofs.Asks.{Asking, OfNow, OfLast, OfPrevious, OfFirst, OfInterval, asked, SameAt, value_rests_on_asked, above_both}
-use Rattle.moment_theory.specs.Free.{SiteReads}
+use Rattle.flat_model.specs.Asks.{Asking, OfNow, OfLast, OfPrevious, OfFirst, OfInterval, asked}
+use Rattle.moment_theory.proofs.Asks.{SameAt, value_rests_on_asked, above_both}
+use Rattle.flat_model.specs.Uses.{SiteReads}
 use Rattle.moment_theory.proofs.Rows.{below_same}
 use Rattle.moment_theory.proofs.Sites.{site_up}
 
@@ -41,17 +42,8 @@ clock_local s S T k (Some (At t)) (Periodic period start) same = refl
 clock_local s S T k (Some (At t)) (Event a factor shift) same =
     ap₂ (λ b n. b && nat_le shift n && (n - shift) % factor == 0) (rises_local s S T a k (λ j le. same a factor shift j refl le)) (risings_local s S T a k (λ j le. same a factor shift j refl le))
 
-ticks_in : Setting → Assignment → ℕ → Option Clock → Bool
-ticks_in s S k None = false
-ticks_in s S k (Some clock) = clock_ticks s S k (moment_at s.instants k) clock
-
-ticks_are : (s : Setting) (S : Assignment) (class k : ℕ) → class_ticks s S (Some class) k ≡ ticks_in s S k (slice_get s.clocking.clocks class)
-unfolding ticks_in
-ticks_are s S class k = refl
-
 in_local : (s : Setting) (S T : Assignment) (k : ℕ) (clock : Option Clock) → ((site factor shift j : ℕ) → clock ≡ Some (Event site factor shift) → j ≤ k → site_answer s S site j ≡ site_answer s T site j)
     → ticks_in s S k clock ≡ ticks_in s T k clock
-unfolding ticks_in
 in_local s S T k None same = refl
 in_local s S T k (Some clock) same = clock_local s S T k (moment_at s.instants k) clock (λ a f g j e le. same a f g j (ap Some e) le)
 
@@ -65,11 +57,10 @@ module _ (s : Setting) (unclocked : AreSitesUnclocked s) (N : ℕ → Type 0) (S
   -- a class whose site reads names of the group alone ticks alike
   pub class_local : (class : Option ℕ) → ((y : ℕ) → SiteReads s class y → N y) → (k : ℕ) → k ≤ m → class_ticks s S class k ≡ class_ticks s T class k
   class_local None holds k le = refl
-  class_local (Some class) holds k le = ticks_are s S class k ∙ in_local s S T k (slice_get s.clocking.clocks class)
+  class_local (Some class) holds k le = in_local s S T k (slice_get s.clocking.clocks class)
       (λ site f g j e less. above_both _ _
       (site_up s S T site j unclocked (λ condition y found some. below_same _ _ (same y j (holds y (site, f, g, condition, e, found, some)) (omega (arith, le, less)))))
       (site_up s T S site j unclocked (λ condition y found some. below_same _ _ (sym (same y j (holds y (site, f, g, condition, e, found, some)) (omega (arith, le, less)))))))
-      ∙ sym (ticks_are s T class k)
 
   -- an expression that asks for names of the group alone, in an equation of one of its classes, has one value
   pub value_local : (e : Expr) (class : Option ℕ) → ((y : ℕ) → SiteReads s class y → N y)

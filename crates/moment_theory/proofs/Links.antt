@@ -12,7 +12,8 @@ use Rattle.flat_model.specs.declared.evaluate.Vantage.{Vantage}
 use Rattle.flat_model.specs.declared.evaluate.Vantage.TheVariants.{Now, Left}
 use Rattle.flat_model.specs.Occurrences.{one_if, bare_in_level, held_in_level, converted_in_level, bare_count, held_count, converted_count}
 use Rattle.flat_model.specs.Samples.{Standing, all_stand, standing_of_level, may_stand, samples_are_plain}
-use Rattle.moment_theory.proofs.Asks.{Asking, OfNow, OfLast, OfPrevious, OfFirst, OfInterval, Asked, asked, asked_in_level, asked_roll, all_asked}
+use Rattle.flat_model.specs.Asks.{Asking, OfNow, OfLast, OfPrevious, OfFirst, OfInterval, Asked, asked, asked_in_level, all_asked}
+use Rattle.moment_theory.proofs.Asks.{asked_roll}
 
 -- the value of a name, at the moment or the last one
 abbrev pub IsSampled : Asking → Type 0

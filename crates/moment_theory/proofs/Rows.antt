@@ -13,16 +13,17 @@ use Rattle.flat_model.specs.Operators.{Is}
 use Rattle.flat_model.specs.Views.{Views}
 use Rattle.flat_model.specs.Meaning.{value_of}
 use Rattle.flat_model.specs.Assignment.{Assignment, IsOfKind}
-use Rattle.flat_model.specs.Occurrences.{bare_count, held_count, converted_count}
+use Rattle.flat_model.specs.Occurrences.{bare_count, held_count, converted_count, sample_count}
 use Rattle.flat_model.specs.Setting.{Setting, class_of_name, class_of_equation, clock_of, site_answer, class_ticks, name_ticks, views_at}
 use Rattle.flat_model.specs.Meets.{HasOneValue}
-use Rattle.flat_model.specs.Uses.{Use, ClassesMeet, ReadsIn, EquationReads}
+use Rattle.flat_model.specs.Uses.{Use, ClassesMeet, ReadsIn, EquationReads, SiteReads}
 use Rattle.flat_model.specs.Given.{Row, with_row, with_value, IsKnownOf, IsKnown, IsKnownToTick, HasLastValue, HasReadIn, HasReadsBut, Solves, IsOnlySolution, CanUse}
-use Rattle.flat_model.proofs.Dependence.{AgreeOn, sample_count, value_rests}
+use Rattle.flat_model.proofs.Dependence.{AgreeOn, value_rests}
 use Rattle.flat_model.proofs.Agreement.{SameBefore, SameNow, views_agree}
 use Rattle.flat_model.proofs.OneSolution.{AreSitesUnclocked}
-use Rattle.moment_theory.specs.Free.{SiteReads, AsksLastIn, IsReachedBy}
-use Rattle.moment_theory.proofs.Ordered.{AreOnOneAxis, IsFreeSide, IsFreeUse}
+use Rattle.moment_theory.specs.Free.{AsksLastIn, IsReachedBy}
+use Rattle.flat_model.specs.Clocks.{AreOnOneAxis}
+use Rattle.moment_theory.proofs.Ordered.{IsFreeSide, IsFreeUse}
 use Rattle.moment_theory.proofs.Above.{IsBelow}
 use Rattle.moment_theory.proofs.Sites.{SameSiteOf, class_ticks_by_site, known_same, still_known, meet_where_tick, not_yet}
 

@@ -13,26 +13,16 @@ use Rattle.flat_model.specs.Operators.{Answer, Is, Absent}
 use Rattle.flat_model.specs.Views.{Views, View}
 use Rattle.flat_model.specs.Meaning.{value_of}
 use Rattle.flat_model.specs.Moments.{moment_at}
-use Rattle.flat_model.specs.Clocks.{is_tick, MeetAt, ShareInstant}
+use Rattle.flat_model.specs.Clocks.{is_tick, ShareInstant, AreOnOneAxis}
 use Rattle.flat_model.specs.Assignment.{Assignment}
 use Rattle.flat_model.specs.Occurrences.{bare_count}
-use Rattle.flat_model.specs.Setting.{Setting, clock_of, unclocked_view, site_answer, is_true, is_false, rises, risings_before, clock_ticks, class_ticks}
-use Rattle.flat_model.specs.Uses.{ClassesMeet}
+use Rattle.flat_model.specs.Setting.{Setting, clock_of, unclocked_view, site_answer, is_true, is_false, rises, risings_before, clock_ticks, class_ticks, ticks_in, answer_in}
+use Rattle.flat_model.specs.Uses.{ClassesMeet, SiteReads}
 use Rattle.flat_model.specs.Given.{IsKnownOf, IsKnown, IsKnownToTick}
 use Rattle.flat_model.proofs.Agreement.{SameBefore, SameUpTo, site_same}
 use Rattle.flat_model.proofs.OneSolution.{AreSitesUnclocked}
 use Rattle.flat_model.proofs.Ticks.{is_tick_law}
-use Rattle.moment_theory.specs.Free.{SiteReads}
-use Rattle.moment_theory.proofs.Ordered.{AreOnOneAxis}
 use Rattle.moment_theory.proofs.Above.{IsBelow, Above, above_refl, RefinesOn, value_up}
-
-answer_in : Views → Option Expr → Answer
-answer_in views None = Absent
-answer_in views (Some condition) = value_of condition views
-
-site_is : (s : Setting) (S : Assignment) (site k : ℕ) → site_answer s S site k ≡ answer_in (λ back. unclocked_view S (k - back)) (slice_get s.clocking.sites site)
-unfolding answer_in
-site_is s S site k = refl
 
 -- the site of a class has one answer in both at m
 abbrev pub SameSiteOf : Setting → Assignment → Assignment → ℕ → Option ℕ → Type 0
@@ -60,17 +50,8 @@ clock_ticks_same s S T m (Some (At t)) (Periodic period start) same site = refl
 clock_ticks_same s S T m (Some (At t)) (Event a factor shift) same site =
     ap₂ (λ b n. b && nat_le shift n && (n - shift) % factor == 0) (rises_same s S T a m same (site a factor shift refl)) (risings_same s S T a m same)
 
-ticks_in : Setting → Assignment → ℕ → Option Clock → Bool
-ticks_in s S k None = false
-ticks_in s S k (Some clock) = clock_ticks s S k (moment_at s.instants k) clock
-
-ticks_are : (s : Setting) (S : Assignment) (class k : ℕ) → class_ticks s S (Some class) k ≡ ticks_in s S k (slice_get s.clocking.clocks class)
-unfolding ticks_in
-ticks_are s S class k = refl
-
 ticks_in_same : (s : Setting) (S T : Assignment) (m : ℕ) (clock : Option Clock) → SameBefore S T m
     → ((site factor shift : ℕ) → clock ≡ Some (Event site factor shift) → site_answer s S site m ≡ site_answer s T site m) → ticks_in s S m clock ≡ ticks_in s T m clock
-unfolding ticks_in
 ticks_in_same s S T m None same site = refl
 ticks_in_same s S T m (Some clock) same site = clock_ticks_same s S T m (moment_at s.instants m) clock same (λ a f g e. site a f g (ap Some e))
 
@@ -78,11 +59,10 @@ ticks_in_same s S T m (Some clock) same site = clock_ticks_same s S T m (moment_
 pub class_ticks_by_site : (s : Setting) (S T : Assignment) (class : Option ℕ) (m : ℕ) → SameBefore S T m → SameSiteOf s S T m class → class_ticks s S class m ≡ class_ticks s T class m
 class_ticks_by_site s S T None m same site = refl
 class_ticks_by_site s S T (Some class) m same site =
-    ticks_are s S class m ∙ ticks_in_same s S T m (slice_get s.clocking.clocks class) same site ∙ sym (ticks_are s T class m)
+    ticks_in_same s S T m (slice_get s.clocking.clocks class) same site
 
 -- an answer of a site stays where more of the names that its condition reads have values
 answers_up : (condition : Option Expr) (v w : Views) → ((e : Expr) → condition ≡ Some e → RefinesOn e v w) → Above (answer_in v condition) (answer_in w condition)
-unfolding answer_in
 answers_up None v w up = tt
 answers_up (Some e) v w up = value_up e v w (up e refl)
 
@@ -90,9 +70,7 @@ pub site_up : (s : Setting) (S T : Assignment) (site m : ℕ) → AreSitesUncloc
     → ((condition : Expr) (y : ℕ) → slice_get s.clocking.sites site ≡ Some condition → 0 < bare_count y condition → IsBelow (S y m) (T y m))
     → Above (site_answer s S site m) (site_answer s T site m)
 site_up s S T site m unclocked up =
-    subst (λ a. Above a (site_answer s T site m)) (sym (site_is s S site m))
-    (subst (λ b. Above (answer_in (λ back. unclocked_view S (m - back)) (slice_get s.clocking.sites site)) b) (sym (site_is s T site m))
-    (answers_up (slice_get s.clocking.sites site) _ _ (λ e f. record {
+    answers_up (slice_get s.clocking.sites site) _ _ (λ e f. record {
       now = λ x some. subst (λ k. IsBelow (S x k) (T x k)) (let h : m ≡ m - 0 = omega arith in h) (up e x f some);
       held = λ x some. tt;
       converted = λ x some. tt;
@@ -100,7 +78,7 @@ site_up s S T site m unclocked up =
       previous = λ x. refl;
       first = refl;
       interval = refl;
-    })))
+    })
 
 -- what is known of a class stays
 known_in : (s : Setting) (S T : Assignment) (m : ℕ) (clock : Option Clock) → IsKnownOf s S m clock → ((site factor shift : ℕ) → clock ≡ Some (Event site factor shift) → Above (site_answer s S site m) (site_answer s T site m))
@@ -159,7 +137,6 @@ clocks_meet s S m (Some (At t)) (Periodic p a) (Event b i j) axis h k = absurd a
 clocks_meet s S m (Some (At t)) (Event a f g) (Periodic q b) axis h k = absurd axis
 
 ticks_in_meet : (s : Setting) (S : Assignment) (m : ℕ) (a b : Option Clock) → AreOnOneAxis a b → ticks_in s S m a ≡ true → ticks_in s S m b ≡ true → (p : Clock) × (q : Clock) × (a ≡ Some p) × (b ≡ Some q) × ShareInstant p q
-unfolding ticks_in
 ticks_in_meet s S m None b axis h k = absurd axis
 ticks_in_meet s S m (Some p) None axis h k = absurd (false≢true k)
 ticks_in_meet s S m (Some p) (Some q) axis h k = (p, q, refl, refl, clocks_meet s S m (moment_at s.instants m) p q axis h k)
@@ -174,13 +151,12 @@ meet_where_tick s S m (Some a) None axis h k = absurd (no_axis (clock_of s (Some
     no_axis (Some (Periodic p q)) x = x
     no_axis (Some (Event d f g)) x = x
 meet_where_tick s S m (Some a) (Some b) axis h k =
-    ticks_in_meet s S m (slice_get s.clocking.clocks a) (slice_get s.clocking.clocks b) axis (sym (ticks_are s S a m) ∙ h) (sym (ticks_are s S b m) ∙ k)
+    ticks_in_meet s S m (slice_get s.clocking.clocks a) (slice_get s.clocking.clocks b) axis h k
 
 not_in : (s : Setting) (S : Assignment) (clock : Option Clock) → ticks_in s S 0 clock ≡ true → ⊥
-unfolding ticks_in
 not_in s S None e = false≢true e
 not_in s S (Some (Periodic p a)) e = false≢true e
 not_in s S (Some (Event a f g)) e = false≢true e
 
 pub not_yet : (s : Setting) (S : Assignment) (class : ℕ) → class_ticks s S (Some class) 0 ≡ true → ⊥
-not_yet s S class e = not_in s S (slice_get s.clocking.clocks class) (sym (ticks_are s S class 0) ∙ e)
+not_yet s S class e = not_in s S (slice_get s.clocking.clocks class) e

@@ -10,11 +10,12 @@ use Rattle.flat_model.specs.Meaning.{value_of}
 use Rattle.flat_model.specs.Assignment.{Assignment}
 use Rattle.flat_model.specs.Setting.{Setting, class_of_name, class_of_equation, clock_of, start_of, class_ticks, name_ticks, interval_at, view_at, views_at}
 use Rattle.flat_model.specs.Given.{with_value, Solves}
-use Rattle.flat_model.specs.Uses.{Use, IsSolvableFor}
+use Rattle.flat_model.specs.Uses.{Use, IsSolvableFor, SiteReads}
 use Rattle.flat_model.proofs.Agreement.{SameBefore, SameUpTo, class_ticks_same, tick_before_same, previous_same, last_same, view_same}
 use Rattle.flat_model.proofs.OneSolution.{AreSitesUnclocked}
-use Rattle.moment_theory.specs.Free.{SiteReads, AsksLastIn}
-use Rattle.moment_theory.proofs.Asks.{Asking, OfNow, OfLast, OfPrevious, OfFirst, OfInterval, asked, SameAt}
+use Rattle.moment_theory.specs.Free.{AsksLastIn}
+use Rattle.flat_model.specs.Asks.{Asking, OfNow, OfLast, OfPrevious, OfFirst, OfInterval, asked}
+use Rattle.moment_theory.proofs.Asks.{SameAt}
 use Rattle.moment_theory.proofs.Links.{asked_bare, asked_last}
 use Rattle.moment_theory.proofs.PartsRest.{SameBut, same_without}
 use Rattle.moment_theory.proofs.Alone.{is_formed, alone}

@@ -9,11 +9,11 @@ use Rattle.flat_model.specs.declared.model.FlatName.{FlatName}
 use Rattle.flat_model.specs.Moments.{moment_at, table_value}
 use Rattle.flat_model.specs.Assignment.{Assignment, IsOfKind}
 use Rattle.flat_model.specs.Setting.{Setting, class_of_name, class_of_equation, class_ticks}
-use Rattle.flat_model.specs.Uses.{Use}
+use Rattle.flat_model.specs.Uses.{Use, SiteReads}
 use Rattle.flat_model.specs.Given.{Row, with_row, IsKnownToTick, CanUse, IsOnlySolution, IsClosed, IsGiven, Solves}
 use Rattle.flat_model.proofs.Agreement.{SameBefore}
 use Rattle.flat_model.proofs.OneSolution.{AreSitesUnclocked}
-use Rattle.moment_theory.specs.Free.{SiteReads, IsReachedBy}
+use Rattle.moment_theory.specs.Free.{IsReachedBy}
 use Rattle.moment_theory.proofs.Ordered.{IsFreeUse, AreFreeUses}
 use Rattle.moment_theory.specs.Taken.{put, Gives, IsTaken, AreTaken, AreInputs}
 use Rattle.moment_theory.proofs.Above.{IsBelow}

@@ -11,11 +11,11 @@ use Rattle.flat_model.specs.Meaning.{value_of}
 use Rattle.flat_model.specs.Assignment.{Assignment, IsOfKind}
 use Rattle.flat_model.specs.Setting.{Setting, class_of_name, class_of_equation, class_ticks, views_at}
 use Rattle.flat_model.specs.Meets.{HasOneValue}
-use Rattle.flat_model.specs.Uses.{Use, ReadsIn}
+use Rattle.flat_model.specs.Uses.{Use, ReadsIn, SiteReads}
 use Rattle.flat_model.specs.Given.{IsKnown, IsKnownToTick, HasReadIn, HasReadsBut, Solves, IsOnlySolution, CanUse, with_value}
 use Rattle.flat_model.proofs.Agreement.{SameBefore}
 use Rattle.flat_model.proofs.OneSolution.{AreSitesUnclocked}
-use Rattle.moment_theory.specs.Free.{SiteReads, AsksLastIn, IsReachedBy}
+use Rattle.moment_theory.specs.Free.{AsksLastIn, IsReachedBy}
 use Rattle.moment_theory.proofs.Ordered.{IsFreeSide, IsFreeUse}
 use Rattle.moment_theory.proofs.Above.{IsBelow}
 use Rattle.moment_theory.proofs.Sites.{SameSiteOf, class_ticks_by_site, known_same, still_known}

@@ -26,7 +26,8 @@ use Rattle.flat_model.specs.Views.{Views, before}
 use Rattle.sync_values.specs.Arithmetic.{fitted, over, magnitude}
 use Rattle.sync_values.specs.declared.value.Fail.TheVariants.{Divide, TooLarge}
 use Rattle.moment_theory.proofs.Above.{value_of_roll}
-use Rattle.moment_theory.proofs.Asks.{Asking, OfNow, OfLast, OfPrevious, OfFirst, OfInterval, Asked, asked, asked_in_level, asked_roll, all_asked, one_itself}
+use Rattle.flat_model.specs.Asks.{Asking, OfNow, OfLast, OfPrevious, OfFirst, OfInterval, Asked, asked, asked_in_level, all_asked}
+use Rattle.moment_theory.proofs.Asks.{asked_roll, one_itself}
 use Rattle.flat_model.specs.Meaning.{Meaning, meaning_of_level, seen_by, value_of, whole_of}
 use Rattle.flat_model.specs.Typing.{Types, valued_type, type_of_value, is_value, is_type, typed_if, goes_with, type_of_operator, type_if_all, chain_type, relation_type, if_type, arity, call_type, type_of_level, type_of}
 

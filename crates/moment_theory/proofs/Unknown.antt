@@ -10,11 +10,11 @@ use Rattle.flat_model.specs.declared.clock.Moment.TheVariants.{Initial, At}
 use Rattle.flat_model.specs.Operators.{Answer, Is, Fails, Absent}
 use Rattle.flat_model.specs.Moments.{moment_at}
 use Rattle.flat_model.specs.Assignment.{Assignment}
-use Rattle.flat_model.specs.Setting.{Setting, clock_of, site_answer, is_true, rises, risings_before, clock_ticks, class_ticks}
+use Rattle.flat_model.specs.Setting.{Setting, clock_of, site_answer, is_true, rises, risings_before, clock_ticks, class_ticks, ticks_in}
 use Rattle.flat_model.specs.Given.{IsKnownOf, IsKnown}
 use Rattle.flat_model.proofs.OneSolution.{AreSitesUnclocked}
 use Rattle.moment_theory.proofs.Asks.{above_both}
-use Rattle.moment_theory.specs.Free.{SiteReads}
+use Rattle.flat_model.specs.Uses.{SiteReads}
 use Rattle.moment_theory.proofs.Rows.{below_same}
 use Rattle.moment_theory.proofs.Sites.{SameSiteOf, site_up}
 
@@ -40,19 +40,10 @@ clock_known s S m None (Event site f g) h = absurd (false≢true h)
 clock_known s S m (Some Initial) (Event site f g) h = absurd (false≢true h)
 clock_known s S m (Some (At t)) (Event site f g) h = rises_known s S site m (and_parts _ _ (and_parts _ _ h).0).0
 
-ticks_in : Setting → Assignment → ℕ → Option Clock → Bool
-ticks_in s S k None = false
-ticks_in s S k (Some clock) = clock_ticks s S k (moment_at s.instants k) clock
-
-ticks_are : (s : Setting) (S : Assignment) (class k : ℕ) → class_ticks s S (Some class) k ≡ ticks_in s S k (slice_get s.clocking.clocks class)
-unfolding ticks_in
-ticks_are s S class k = refl
-
 known_in : (s : Setting) (S : Assignment) (m : ℕ) (clock : Option Clock) → ticks_in s S m clock ≡ true → IsKnownOf s S m clock
-unfolding ticks_in
 known_in s S m None h = tt
 known_in s S m (Some clock) h = clock_known s S m (moment_at s.instants m) clock h
 
 pub known_where_ticks : (s : Setting) (S : Assignment) (m : ℕ) (class : Option ℕ) → class_ticks s S class m ≡ true → IsKnown s S m class
 known_where_ticks s S m None h = tt
-known_where_ticks s S m (Some class) h = known_in s S m (slice_get s.clocking.clocks class) (sym (ticks_are s S class m) ∙ h)
+known_where_ticks s S m (Some class) h = known_in s S m (slice_get s.clocking.clocks class) h

@@ -1,22 +1,16 @@
 -- The order in which the uses of a moment may be taken. This project's own.
 use Rattle.std.specs.Prelude.{◌≡◌, ℕ, ◌<◌, ◌⊎◌, List, [], ◌∷◌, Option, Some, slice_get, Contains}
-use Rattle.flat_model.specs.declared.clock.Clock.TheVariants.{Event}
 use Rattle.flat_model.specs.declared.equation.Equation.{Equation}
 use Rattle.flat_model.specs.declared.equation.Equation.TheVariants.{Valued, Clocks}
 use Rattle.flat_model.specs.declared.expression.Expr.{Expr}
 use Rattle.flat_model.specs.Occurrences.{bare_count, held_count, converted_count}
 use Rattle.flat_model.specs.Setting.{Setting, class_of_name, class_of_equation, clock_of}
-use Rattle.flat_model.specs.Uses.{Use, Reads}
+use Rattle.flat_model.specs.Uses.{Use, Reads, SiteReads}
 
 -- one of these uses reaches the name
 abbrev pub IsReachedBy : ℕ → List Use → Type 0
 IsReachedBy y [] = ⊥
 IsReachedBy y (entry ∷ uses) = (y ≡ entry.name) ⊎ IsReachedBy y uses
-
--- the class has an Event clock, and the condition of its site reads the name
-abbrev pub SiteReads : Setting → Option ℕ → ℕ → Type 0
-SiteReads s class y = (site : ℕ) × (factor : ℕ) × (shift : ℕ) × (condition : Expr) × (clock_of s class ≡ Some (Event site factor shift))
-    × (slice_get s.clocking.sites site ≡ Some condition) × (0 < bare_count y condition)
 
 -- the name is the argument of `hold` or of a conversion in an expression
 abbrev pub AsksLastIn : Expr → ℕ → Type 0
