@@ -23,7 +23,7 @@ use Rattle.moment_theory.proofs.Stands.{stands_bare}
 use Rattle.moment_theory.proofs.Sums.{AreSums, chain_start, one_start, one_right, one_negated, one_inverted, right_value}
 
 -- whether each chain on the way has an operator between each part and the next
-abbrev formed_level : Expr-F (Unit {0}) Bool → Bool
+abbrev pub formed_level : Expr-F (Unit {0}) Bool → Bool
 formed_level (Expr-F.Chain parts ops) = length parts == suc (length ops) && list_all (λ part. part) parts
 formed_level (Expr-F.Neg part) = part
 formed_level (Expr-F.Not part) = part

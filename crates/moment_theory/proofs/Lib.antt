@@ -8,6 +8,8 @@ pub mod Facts
 pub mod Members
 pub mod Stands
 pub mod Sums
+pub mod Placed
+pub mod Named
 pub mod Solutions
 pub mod Alone
 pub mod GivenByOrder
