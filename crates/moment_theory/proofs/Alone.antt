@@ -14,10 +14,10 @@ use Rattle.flat_model.specs.Occurrences.{is_sum, reached_in_level, is_reached, b
 use Rattle.flat_model.specs.Operators.{Answer, Is, read, joined, chained, chain}
 use Rattle.flat_model.specs.Views.{Views}
 use Rattle.flat_model.specs.Meaning.{Meaning, meaning_of_level, seen_by, value_of}
-use Rattle.moment_theory.proofs.Above.{value_of_roll}
+use Rattle.flat_model.proofs.Above.{value_of_roll}
 use Rattle.flat_model.specs.Asks.{Asking, OfNow, Asked, asked, asked_in_level, all_asked}
-use Rattle.moment_theory.proofs.Asks.{asked_roll, SameAt}
-use Rattle.moment_theory.proofs.Links.{asked_bare}
+use Rattle.flat_model.proofs.Asks.{asked_roll, SameAt}
+use Rattle.flat_model.proofs.Links.{asked_bare}
 use Rattle.moment_theory.proofs.PartsRest.{SameBut, same_without}
 use Rattle.moment_theory.proofs.Stands.{stands_bare}
 use Rattle.moment_theory.proofs.Sums.{AreSums, chain_start, one_start, one_right, one_negated, one_inverted, right_value}

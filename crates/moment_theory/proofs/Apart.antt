@@ -11,7 +11,7 @@ use Rattle.flat_model.proofs.OneSolution.{AreSitesUnclocked}
 use Rattle.moment_theory.specs.Free.{IsReachedBy}
 use Rattle.moment_theory.proofs.Ordered.{IsFreeUse, AreFreeUses}
 use Rattle.moment_theory.specs.Taken.{put, Gives, IsTaken, AreTaken}
-use Rattle.moment_theory.proofs.Above.{IsBelow}
+use Rattle.flat_model.proofs.Above.{IsBelow}
 use Rattle.moment_theory.proofs.Rows.{below_same}
 use Rattle.moment_theory.proofs.Transfer.{IsSound, Needs, can_up, only_up}
 use Rattle.moment_theory.proofs.Taking.{IsClear, over, same_over, below_over, put_same, put_other, step_other, step_clear, step_sound, unchanged, taken_sound}

@@ -14,7 +14,7 @@ use Rattle.flat_model.proofs.OneSolution.{AreSitesUnclocked}
 use Rattle.moment_theory.specs.Free.{IsReachedBy}
 use Rattle.moment_theory.proofs.Ordered.{IsFreeUse, AreFreeUses}
 use Rattle.moment_theory.specs.Taken.{AreTaken, AreInputs}
-use Rattle.moment_theory.proofs.Above.{IsBelow}
+use Rattle.flat_model.proofs.Above.{IsBelow}
 use Rattle.moment_theory.proofs.Rows.{row_now}
 use Rattle.moment_theory.proofs.Transfer.{IsSound}
 use Rattle.moment_theory.proofs.Taking.{IsClear, unchanged, taken_up, taken_sound, taken_least, taken_closed}

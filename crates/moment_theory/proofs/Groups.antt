@@ -14,12 +14,12 @@ use Rattle.flat_model.specs.Assignment.{Assignment, tick_before, last_value, pre
 use Rattle.flat_model.specs.Setting.{Setting, class_of_name, clock_of, start_of, site_answer, is_true, is_false, rises, risings_before, clock_ticks, class_ticks, name_ticks, time_between, interval_at, views_at, ticks_in}
 use Rattle.flat_model.proofs.Agreement.{tick_before_same, previous_same}
 use Rattle.flat_model.proofs.OneSolution.{AreSitesUnclocked}
-use Rattle.moment_theory.proofs.Above.{IsBelow}
+use Rattle.flat_model.proofs.Above.{IsBelow}
 use Rattle.flat_model.specs.Asks.{Asking, OfNow, OfLast, OfPrevious, OfFirst, OfInterval, asked}
-use Rattle.moment_theory.proofs.Asks.{SameAt, value_rests_on_asked, above_both}
+use Rattle.flat_model.proofs.Asks.{SameAt, value_rests_on_asked, above_both}
 use Rattle.flat_model.specs.Uses.{SiteReads}
 use Rattle.moment_theory.proofs.Rows.{below_same}
-use Rattle.moment_theory.proofs.Sites.{site_up}
+use Rattle.flat_model.proofs.Sites.{site_up}
 
 -- two assignments have the same values of some names up to m
 abbrev pub SameNamesUpTo : (ℕ → Type 0) → Assignment → Assignment → ℕ → Type 0

@@ -1,6 +1,4 @@
-pub mod Above
 pub mod Apart
-pub mod Asks
 pub mod Beside
 pub mod FromOrder
 pub mod FromUses
@@ -14,7 +12,6 @@ pub mod Solutions
 pub mod Alone
 pub mod GivenByOrder
 pub mod Groups
-pub mod Links
 pub mod Meeting
 pub mod NoSolution
 pub mod Ordered
@@ -22,8 +19,6 @@ pub mod PartsRest
 pub mod Relabel
 pub mod Rows
 pub mod Running
-pub mod Sites
 pub mod Taking
 pub mod Transfer
-pub mod Typed
 pub mod Unknown

@@ -16,7 +16,7 @@ use Rattle.flat_model.specs.Asks.{Asking, OfNow, OfLast, OfPrevious, OfFirst, Of
 use Rattle.flat_model.specs.Occurrences.{one_if}
 use Rattle.flat_model.specs.Typing.{Types, valued_type, is_type, typed_if, goes_with, type_of_operator, type_if_all, chain_type, relation_type, if_type, arity, call_type, type_of_level}
 use Rattle.flat_model.specs.WholeTyping.{clock_level, whole_level, sampled_type, is_variable_if, whole_type_of, is_typed_clock}
-use Rattle.moment_theory.proofs.Asks.{asked_roll}
+use Rattle.flat_model.proofs.Asks.{asked_roll}
 use Rattle.moment_theory.proofs.Alone.{is_formed, formed_level, formed_roll}
 
 -- a name that is asked for is one with values

@@ -23,8 +23,8 @@ use Rattle.flat_model.proofs.OneSolution.{AreSitesUnclocked, same_where_given}
 use Rattle.moment_theory.specs.Free.{IsReachedBy}
 use Rattle.moment_theory.proofs.Ordered.{IsFreeUse, AreFreeUses}
 use Rattle.moment_theory.specs.Taken.{Gives, IsTaken, AreTaken, AreInputs}
-use Rattle.moment_theory.proofs.Above.{IsBelow, Above}
-use Rattle.moment_theory.proofs.Sites.{site_up}
+use Rattle.flat_model.proofs.Above.{IsBelow, Above}
+use Rattle.flat_model.proofs.Sites.{site_up}
 use Rattle.moment_theory.proofs.Rows.{row_now, row_before}
 use Rattle.moment_theory.proofs.Transfer.{IsSound, can_up, solved_down}
 use Rattle.moment_theory.proofs.Taking.{taken_sound}

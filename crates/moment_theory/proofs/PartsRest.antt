@@ -15,9 +15,9 @@ use Rattle.flat_model.specs.Functions.{called}
 use Rattle.flat_model.specs.Views.{Views, before}
 use Rattle.flat_model.specs.Meaning.{Meaning, meaning_of_level, seen_by, value_of}
 use Rattle.flat_model.specs.Parts.{Way, beside_of, prefix_of, beside_in_chain, meanings_of, level_of_meanings, reaches_through, beside_through, way_through, way_to, parts_beside}
-use Rattle.moment_theory.proofs.Above.{value_of_roll}
+use Rattle.flat_model.proofs.Above.{value_of_roll}
 use Rattle.flat_model.specs.Asks.{Asking, OfNow, Asked, asked, asked_in_level, all_asked}
-use Rattle.moment_theory.proofs.Asks.{asked_roll, SameAt, value_rests_on_asked, one_itself}
+use Rattle.flat_model.proofs.Asks.{asked_roll, SameAt, value_rests_on_asked, one_itself}
 
 way_to_roll : (x : ℕ) (y : Expr-F ClockExpr Expr) → way_to x (roll-Expr y) ≡ way_through x (map-Expr ClockExpr Expr (Unit {0}) Way (λ _. tt) (way_to x) y)
 unfolding way_to

@@ -11,7 +11,7 @@ use Rattle.flat_model.specs.Operators.{Answer, Is, chain, negated, inverted, rel
 use Rattle.flat_model.specs.Functions.{called}
 use Rattle.flat_model.specs.Views.{View, Views, before}
 use Rattle.flat_model.specs.Meaning.{Meaning, meaning_of_level, seen_by, whole_of, value_of}
-use Rattle.moment_theory.proofs.Above.{value_of_roll}
+use Rattle.flat_model.proofs.Above.{value_of_roll}
 
 -- one level with other numbers; the clock of a `sample` decides nothing
 abbrev pub relabelled_level : (ℕ → ℕ) → Expr-F (Unit {0}) Expr → Expr-F ClockExpr Expr

@@ -24,8 +24,8 @@ use Rattle.flat_model.proofs.OneSolution.{AreSitesUnclocked}
 use Rattle.moment_theory.specs.Free.{AsksLastIn, IsReachedBy}
 use Rattle.flat_model.specs.Clocks.{AreOnOneAxis}
 use Rattle.moment_theory.proofs.Ordered.{IsFreeSide, IsFreeUse}
-use Rattle.moment_theory.proofs.Above.{IsBelow}
-use Rattle.moment_theory.proofs.Sites.{SameSiteOf, class_ticks_by_site, known_same, still_known, meet_where_tick, not_yet}
+use Rattle.flat_model.proofs.Above.{IsBelow}
+use Rattle.flat_model.proofs.Sites.{SameSiteOf, class_ticks_by_site, known_same, still_known, meet_where_tick, not_yet}
 
 pub row_now : (S : Assignment) (m : ℕ) (row : Row) (x : ℕ) → with_row S m row x m ≡ row x
 row_now S m row x = ap (λ b. if b then row x else S x m) (eq-eqb m m refl)

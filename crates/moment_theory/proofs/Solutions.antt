@@ -15,13 +15,13 @@ use Rattle.flat_model.proofs.Agreement.{SameBefore, SameUpTo, class_ticks_same, 
 use Rattle.flat_model.proofs.OneSolution.{AreSitesUnclocked}
 use Rattle.moment_theory.specs.Free.{AsksLastIn}
 use Rattle.flat_model.specs.Asks.{Asking, OfNow, OfLast, OfPrevious, OfFirst, OfInterval, asked}
-use Rattle.moment_theory.proofs.Asks.{SameAt}
-use Rattle.moment_theory.proofs.Links.{asked_bare, asked_last}
+use Rattle.flat_model.proofs.Asks.{SameAt}
+use Rattle.flat_model.proofs.Links.{asked_bare, asked_last}
 use Rattle.moment_theory.proofs.PartsRest.{SameBut, same_without}
 use Rattle.moment_theory.proofs.Alone.{is_formed, alone}
 use Rattle.moment_theory.proofs.Groups.{interval_same}
 use Rattle.moment_theory.proofs.Rows.{value_now, value_other, value_before, unclocked_at_first}
-use Rattle.moment_theory.proofs.Sites.{class_ticks_by_site}
+use Rattle.flat_model.proofs.Sites.{class_ticks_by_site}
 use Rattle.moment_theory.proofs.Stands.{stands_bare}
 use Rattle.moment_theory.proofs.Unknown.{site_same}
 

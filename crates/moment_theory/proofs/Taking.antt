@@ -16,7 +16,7 @@ use Rattle.flat_model.proofs.OneSolution.{AreSitesUnclocked}
 use Rattle.moment_theory.specs.Free.{IsReachedBy}
 use Rattle.moment_theory.proofs.Ordered.{IsFreeUse, AreFreeUses}
 use Rattle.moment_theory.specs.Taken.{put, Gives, IsTaken, AreTaken, AreInputs}
-use Rattle.moment_theory.proofs.Above.{IsBelow}
+use Rattle.flat_model.proofs.Above.{IsBelow}
 use Rattle.moment_theory.proofs.Rows.{row_now, row_before, below_refl, below_same}
 use Rattle.moment_theory.proofs.Transfer.{IsSound, Needs, needs_earlier, known_up, can_up, only_up}
 use Rattle.moment_theory.proofs.Members.{IsMember}

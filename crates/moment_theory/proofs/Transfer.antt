@@ -17,8 +17,8 @@ use Rattle.flat_model.proofs.Agreement.{SameBefore}
 use Rattle.flat_model.proofs.OneSolution.{AreSitesUnclocked}
 use Rattle.moment_theory.specs.Free.{AsksLastIn, IsReachedBy}
 use Rattle.moment_theory.proofs.Ordered.{IsFreeSide, IsFreeUse}
-use Rattle.moment_theory.proofs.Above.{IsBelow}
-use Rattle.moment_theory.proofs.Sites.{SameSiteOf, class_ticks_by_site, known_same, still_known}
+use Rattle.flat_model.proofs.Above.{IsBelow}
+use Rattle.flat_model.proofs.Sites.{SameSiteOf, class_ticks_by_site, known_same, still_known}
 use Rattle.moment_theory.proofs.Rows.{IsSideUp, read_up, side_same, below_same}
 
 -- each value at m is of a name that is known to tick

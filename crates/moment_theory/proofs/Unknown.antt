@@ -13,10 +13,10 @@ use Rattle.flat_model.specs.Assignment.{Assignment}
 use Rattle.flat_model.specs.Setting.{Setting, clock_of, site_answer, is_true, rises, risings_before, clock_ticks, class_ticks, ticks_in}
 use Rattle.flat_model.specs.Given.{IsKnownOf, IsKnown}
 use Rattle.flat_model.proofs.OneSolution.{AreSitesUnclocked}
-use Rattle.moment_theory.proofs.Asks.{above_both}
+use Rattle.flat_model.proofs.Asks.{above_both}
 use Rattle.flat_model.specs.Uses.{SiteReads}
 use Rattle.moment_theory.proofs.Rows.{below_same}
-use Rattle.moment_theory.proofs.Sites.{SameSiteOf, site_up}
+use Rattle.flat_model.proofs.Sites.{SameSiteOf, site_up}
 
 pub site_same : (s : Setting) (S T : Assignment) (m : ℕ) (class : Option ℕ) → AreSitesUnclocked s → ((y : ℕ) → SiteReads s class y → S y m ≡ T y m) → SameSiteOf s S T m class
 site_same s S T m class unclocked same site factor shift e = above_both _ _
