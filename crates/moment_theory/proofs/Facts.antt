@@ -1,5 +1,5 @@
 -- What the model gives of each equation that is used, and with it a free order as the lemmas take it.
-use Rattle.std.proofs.Common.{◌≡◌, ◌≢◌, refl, ap, ◌∙◌, sym, subst, ℕ, ◌+◌, ◌<◌, ◌≤◌, false, List, [], ◌∷◌, ◌++◌, Option, Some, None, slice_get, Contains, ◌⊎◌, inl, inr, arith}
+use Rattle.std.proofs.Common.{◌≡◌, ◌≢◌, refl, ap, ◌∙◌, sym, subst, ℕ, ◌+◌, ◌<◌, ◌≤◌, true, false, List, [], ◌∷◌, ◌++◌, Option, Some, None, slice_get, Contains, ◌⊎◌, inl, inr, arith}
 use Rattle.std.proofs.lemmas.Option.{same_Some}
 use Rattle.flat_model.specs.declared.clock.Clock.{Clock}
 use Rattle.flat_model.specs.declared.equation.Equation.{Equation}
@@ -19,6 +19,7 @@ use Rattle.moment_theory.proofs.Ordered.{IsFreeSide, IsFreeUse, AreFreeUses}
 use Rattle.moment_theory.proofs.GivenByOrder.{AreInputsUnclocked, AreSameMembers}
 use Rattle.moment_theory.proofs.Meeting.{AreClassed, HasTableValues}
 use Rattle.moment_theory.proofs.Members.{IsMember, contains_member, member_contains}
+use Rattle.moment_theory.proofs.Alone.{is_formed}
 use Rattle.moment_theory.proofs.Stands.{stands_bare}
 
 -- what a model and its clocking give, whatever is used
@@ -30,6 +31,7 @@ pub record Facts (s : Setting) : Type 0 where
       → (z : ℕ) → (0 < converted_count z left) ⊎ (0 < converted_count z right) → AreOnOneAxis (clock_of s (class_of_equation s i)) (clock_of s (class_of_name s z))
   pub samples : (i : ℕ) (left right : Expr) (clause : Option ℕ) → slice_get s.model.equations i ≡ Some (Valued left right clause)
       → class_of_equation s i ≡ None → (0 < sample_count left) ⊎ (0 < sample_count right) → ⊥
+  pub formed : (i : ℕ) (left right : Expr) (clause : Option ℕ) → slice_get s.model.equations i ≡ Some (Valued left right clause) → (is_formed left ≡ true) × (is_formed right ≡ true)
   pub tables : (m : ℕ) (at : Moment) → moment_at s.instants m ≡ Some at → HasTableValues s at
 
 -- what is known of a use
@@ -75,13 +77,13 @@ not_last x e no_hold no_conversion (inl some) = omega (arith, some, no_hold)
 not_last x e no_hold no_conversion (inr some) = omega (arith, some, no_conversion)
 
 module _ (s : Setting) (facts : Facts s) (entry : Use) (use_is : UseFacts s entry) where
-  once_left : AsksLastIn use_is.left entry.name → ⊥
+  pub once_left : AsksLastIn use_is.left entry.name → ⊥
   once_left = elim use_is.solvable.1 [
     | inl reached ↦ let one = stands_bare entry.name use_is.left reached in let total = use_is.solvable.0 in not_last entry.name use_is.left (omega (arith, one, total)) (omega (arith, one, total))
     | inr reached ↦ let one = stands_bare entry.name use_is.right reached in let total = use_is.solvable.0 in not_last entry.name use_is.left (omega (arith, one, total)) (omega (arith, one, total))
   ]
 
-  once_right : AsksLastIn use_is.right entry.name → ⊥
+  pub once_right : AsksLastIn use_is.right entry.name → ⊥
   once_right = elim use_is.solvable.1 [
     | inl reached ↦ let one = stands_bare entry.name use_is.left reached in let total = use_is.solvable.0 in not_last entry.name use_is.right (omega (arith, one, total)) (omega (arith, one, total))
     | inr reached ↦ let one = stands_bare entry.name use_is.right reached in let total = use_is.solvable.0 in not_last entry.name use_is.right (omega (arith, one, total)) (omega (arith, one, total))

@@ -6,6 +6,8 @@ pub mod Facts
 pub mod Members
 pub mod Stands
 pub mod Sums
+pub mod FromRunnable
+pub mod Columns
 pub mod Placed
 pub mod Named
 pub mod Solutions
@@ -19,6 +21,11 @@ pub mod PartsRest
 pub mod Relabel
 pub mod Rows
 pub mod Running
+pub mod Composed
+pub mod Windowed
+pub mod MetTaken
+pub mod TakenBeside
+pub mod Ready
 pub mod Taking
 pub mod Transfer
 pub mod Unknown

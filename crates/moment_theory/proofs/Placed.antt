@@ -64,7 +64,7 @@ module _ {A B : Type 0} (f : A → ClockExpr) (g : B → Expr) (all : (b : B) �
 
   parts_left : (ps : List B) → all_stand Left (map may_stand (map g ps)) ≡ true → sum (map sample_count (map g ps)) ≡ 0
   parts_left [] stand = refl
-  parts_left (p ∷ ps) stand = let h = and_parts _ _ stand in omega (arith, (all p).left h.0, parts_left ps h.1, sum_by-cons (λ m. m) (sample_count (g p)) (map sample_count (map g ps)))
+  parts_left (p ∷ ps) stand = omega (arith, (all p).left (and_parts _ _ stand).0, parts_left ps (and_parts _ _ stand).1, sum_by-cons (λ m. m) (sample_count (g p)) (map sample_count (map g ps)))
 
   level_left : (y : Expr-F A B) → standing_of_level (map-Expr ClockExpr Expr (Unit {0}) Standing (λ _. tt) may_stand (map-Expr A B ClockExpr Expr f g y)) Left ≡ true → samples_in_level (counted sample_count (map-Expr A B ClockExpr Expr f g y)) ≡ 0
   level_left (Expr-F.Const v) stand = refl
@@ -74,7 +74,7 @@ module _ {A B : Type 0} (f : A → ClockExpr) (g : B → Expr) (all : (b : B) �
   level_left (Expr-F.Neg a) stand = (all a).left stand
   level_left (Expr-F.Not a) stand = (all a).left stand
   level_left (Expr-F.If cs bs other) stand =
-      let h = and_parts _ _ stand in let k = and_parts _ _ h.0 in omega (arith, parts_left cs k.0, parts_left bs k.1, (all other).left h.1)
+      omega (arith, parts_left cs (and_parts _ _ (and_parts _ _ stand).0).0, parts_left bs (and_parts _ _ (and_parts _ _ stand).0).1, (all other).left (and_parts _ _ stand).1)
   level_left (Expr-F.Apply function ps) stand = parts_left ps stand
   level_left (Expr-F.Previous n) stand = refl
   level_left (Expr-F.FirstTick n) stand = refl
@@ -85,7 +85,7 @@ module _ {A B : Type 0} (f : A → ClockExpr) (g : B → Expr) (all : (b : B) �
 
   parts_direct : (ps : List B) → list_all (λ part. part) (map is_direct (map g ps)) ≡ true → sum (map sample_count (map g ps)) ≡ 0
   parts_direct [] stand = refl
-  parts_direct (p ∷ ps) stand = let h = and_parts _ _ stand in omega (arith, (all p).direct h.0, parts_direct ps h.1, sum_by-cons (λ m. m) (sample_count (g p)) (map sample_count (map g ps)))
+  parts_direct (p ∷ ps) stand = omega (arith, (all p).direct (and_parts _ _ stand).0, parts_direct ps (and_parts _ _ stand).1, sum_by-cons (λ m. m) (sample_count (g p)) (map sample_count (map g ps)))
 
   level_direct : (y : Expr-F A B) → direct_level (map-Expr ClockExpr Expr (Unit {0}) Bool (λ _. tt) is_direct (map-Expr A B ClockExpr Expr f g y)) ≡ true → samples_in_level (counted sample_count (map-Expr A B ClockExpr Expr f g y)) ≡ 0
   level_direct (Expr-F.Const v) stand = refl
@@ -95,7 +95,7 @@ module _ {A B : Type 0} (f : A → ClockExpr) (g : B → Expr) (all : (b : B) �
   level_direct (Expr-F.Neg a) stand = (all a).direct stand
   level_direct (Expr-F.Not a) stand = (all a).direct stand
   level_direct (Expr-F.If cs bs other) stand =
-      let h = and_parts _ _ stand in let k = and_parts _ _ h.0 in omega (arith, parts_direct cs k.0, parts_direct bs k.1, (all other).direct h.1)
+      omega (arith, parts_direct cs (and_parts _ _ (and_parts _ _ stand).0).0, parts_direct bs (and_parts _ _ (and_parts _ _ stand).0).1, (all other).direct (and_parts _ _ stand).1)
   level_direct (Expr-F.Apply function ps) stand = parts_direct ps stand
   level_direct (Expr-F.Previous n) stand = absurd (false≢true stand)
   level_direct (Expr-F.FirstTick n) stand = absurd (false≢true stand)

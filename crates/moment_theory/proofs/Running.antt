@@ -15,6 +15,7 @@ use Rattle.flat_model.specs.Given.{Row, with_row, IsGiven}
 use Rattle.flat_model.specs.Faults.{SomethingFails}
 use Rattle.flat_model.proofs.Agreement.{SameBefore, SameUpTo}
 use Rattle.flat_model.proofs.OneSolution.{AreSitesUnclocked}
+use Rattle.moment_theory.specs.Going.{IsOnlyBefore}
 use Rattle.moment_theory.specs.Free.{IsReachedBy}
 use Rattle.moment_theory.proofs.Ordered.{AreFreeUses}
 use Rattle.moment_theory.specs.Taken.{AreTaken, AreInputs}
@@ -25,17 +26,12 @@ use Rattle.moment_theory.proofs.NoSolution.{nothing_fails, same_now}
 use Rattle.moment_theory.proofs.Members.{IsMember}
 
 -- what a model and its order give once and for all
-pub record IsRunnable (s : Setting) (uses : List Use) : Type 0 where
+pub record IsReady (s : Setting) (uses : List Use) : Type 0 where
   pub unclocked : AreSitesUnclocked s
   pub inputs : AreInputsUnclocked s
   pub classed : AreClassed s
   pub order : AreFreeUses s uses
   pub whole : AreWhole s uses
-
--- S meets the model before m, and whatever does is the same there
-pub record IsOnlyBefore (s : Setting) (S : Assignment) (m : ℕ) : Type 0 where
-  pub meets : MeetsBefore s S m
-  pub only : (T : Assignment) → MeetsBefore s T m → SameBefore S T m
 
 -- nothing is asked before the first moment
 pub only_at_first : (s : Setting) (S : Assignment) → IsOnlyBefore s S 0
@@ -51,7 +47,7 @@ valued_names s uses whole entry name member found =
     reached (first ∷ us) e (inl is) = inl (ap (λ u. u.name) (sym is))
     reached (first ∷ us) e (inr h) = inr (reached us e h)
 
-module _ (s : Setting) (uses : List Use) (model : IsRunnable s uses) (S : Assignment) (m : ℕ) (before : IsOnlyBefore s S m)
+module _ (s : Setting) (uses : List Use) (model : IsReady s uses) (S : Assignment) (m : ℕ) (before : IsOnlyBefore s S m)
     (row : Row) (are : AreInputs s m row) (last : Row) (taken : AreTaken s S m uses row last) where
   abbrev U : Assignment
   U = with_row S m last

@@ -1,3 +1,4 @@
 pub mod Free
 pub mod Taken
 pub mod Laws
+pub mod Going

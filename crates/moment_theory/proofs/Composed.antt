@@ -1,0 +1,105 @@
+-- What a step answers, put together with the definitions of a run: the moment is met, or it is that of the first fault.
+use Rattle.std.proofs.Common.{◌≡◌, ◌≢◌, refl, ap, ◌∙◌, sym, subst, ℕ, suc, ◌<◌, ◌≤◌, List, length, All, Contains, Option, Some, None, slice_get, ◌⊎◌, inl, inr, arith}
+use Rattle.std.proofs.Math.Path.{fun_ext}
+use Rattle.std.proofs.lemmas.Option.{same_Some}
+use Rattle.sync_values.specs.declared.value.Value.{Value}
+use Rattle.sync_values.specs.declared.value.Fail.{Fail}
+use Rattle.flat_model.specs.declared.equation.Equation.{Equation}
+use Rattle.flat_model.specs.declared.expression.Expr.{Expr}
+use Rattle.flat_model.specs.declared.model.FlatName.{FlatName}
+use Rattle.flat_model.specs.declared.fault.FaultPlace.{FaultPlace}
+use Rattle.flat_model.specs.declared.fault.FaultPlace.TheVariants as place
+use Rattle.flat_model.specs.Operators.{Answer, Is, Fails, Absent}
+use Rattle.flat_model.specs.Meaning.{value_of}
+use Rattle.flat_model.specs.Assignment.{Assignment}
+use Rattle.flat_model.specs.Setting.{Setting}
+use Rattle.flat_model.specs.Meets.{MeetsAt, MeetsBefore}
+use Rattle.flat_model.specs.Uses.{Use, AreUses}
+use Rattle.flat_model.specs.Given.{Row, with_row, CanUse, IsOnlySolution, IsGiven}
+use Rattle.flat_model.specs.Faults.{SiteFails, EquationFails, SomethingFails, IsFirstToFail, IsFirstFault}
+use Rattle.flat_model.proofs.Agreement.{SameBefore}
+use Rattle.moment_theory.proofs.Ordered.{AreFreeUses}
+use Rattle.moment_theory.specs.Taken.{AreTaken, AreInputs}
+use Rattle.moment_theory.proofs.Members.{IsMember, contains_member, member_contains}
+use Rattle.moment_theory.proofs.GivenByOrder.{AreSameMembers, taken_given}
+use Rattle.moment_theory.proofs.NoSolution.{nothing_fails}
+use Rattle.moment_theory.proofs.Running.{IsReady, valued_names}
+
+-- a failing equation of one list of uses is one of another with the same entries
+pub moved_use : (s : Setting) (A : Assignment) (these those : List Use) (m i : ℕ) (kind : Fail) → ((entry : Use) → Contains these entry → Contains those entry) → EquationFails s A these m i kind → EquationFails s A those m i kind
+moved_use s A these those m i kind within f = record {
+  entry = f.entry;
+  used = within f.entry f.used;
+  equation_is = f.equation_is;
+  equation = f.equation;
+  name = f.name;
+  counts = f.counts;
+  unsolved = f.unsolved;
+  kind_is = f.kind_is;
+}
+
+pub to_all : (all uses : List Use) → AreSameMembers all uses → (entry : Use) → Contains uses entry → Contains all entry
+to_all all uses same entry h = same.within entry (contains_member entry uses h)
+
+pub from_all : (all uses : List Use) → AreSameMembers all uses → (entry : Use) → Contains all entry → Contains uses entry
+from_all all uses same entry h = member_contains entry uses (same.whole entry h)
+
+-- two rows of given values are one
+pub given_once : (s : Setting) (S : Assignment) (uses : List Use) (m : ℕ) (a b : Row) → IsGiven s S uses m a → IsGiven s S uses m b → a ≡ b
+given_once s S uses m a b one two = fun_ext (λ x. same (a x) (b x) (λ v h. one.least b two.closed x v h) (λ v h. two.least a one.closed x v h))
+  where
+    same : (o p : Option Value) → ((v : Value) → o ≡ Some v → p ≡ Some v) → ((v : Value) → p ≡ Some v → o ≡ Some v) → o ≡ p
+    same None None up down = refl
+    same None (Some v) up down = down v refl
+    same (Some v) p up down = sym (up v refl)
+
+-- at an earlier moment the row was taken, and it is that of an assignment that met the model there
+pub record WasTaken (s : Setting) (uses : List Use) (S : Assignment) (k : ℕ) : Type 0 where
+  pub row : Row
+  pub are : AreInputs s k row
+  pub last : Row
+  pub taken : AreTaken s S k uses row last
+
+module _ (s : Setting) (all uses : List Use) (model : IsReady s uses) (same : AreSameMembers all uses) (S : Assignment) where
+  -- where the assignment meets the model nothing fails over any row of given values
+  pub quiet : (k : ℕ) (earlier : Row) → WasTaken s uses S k → MeetsAt s S k → IsGiven s S all k earlier → SomethingFails s (with_row S k earlier) all k → ⊥
+  quiet k earlier was meets given fails =
+      let own = taken_given s model.unclocked model.inputs S k uses model.order was.row was.are all was.last same was.taken in
+      let rows : earlier ≡ was.last = given_once s S all k earlier was.last given own in
+      nothing_fails s model.unclocked model.inputs S k uses model.order (valued_names s uses model.whole) was.row was.are was.last was.taken S (λ x j lt. refl) meets
+      (moved (subst (λ r. SomethingFails s (with_row S k r) all k) rows fails))
+    where
+      moved : {A : Assignment} → SomethingFails s A all k → SomethingFails s A uses k
+      moved (inl site) = inl site
+      moved {A} (inr (i, kind, f)) = inr (i, kind, moved_use s A all uses k i kind (from_all all uses same) f)
+
+  -- the first fault, where an equation fails at m, none before it in flat order does, and no site does
+  pub first_fault : AreUses s all → (m : ℕ) (row last : Row) → AreInputs s m row → AreTaken s S m uses row last → MeetsBefore s S m → ((k : ℕ) → k < m → WasTaken s uses S k)
+      → (i : ℕ) (kind : Fail) → EquationFails s (with_row S m last) uses m i kind → ((j : ℕ) (k : Fail) → SiteFails s (with_row S m last) m j k → ⊥)
+      → ((j : ℕ) (k : Fail) → j < i → EquationFails s (with_row S m last) uses m j k → ⊥) → IsFirstFault s S m (place.Equation i) kind
+  first_fault uses_are m row last are taken meets was i kind fails sites none = record {
+    meets = meets;
+    uses = all;
+    uses_are = uses_are;
+    row = last;
+    given = taken_given s model.unclocked model.inputs S m uses model.order row are all last same taken;
+    first = (
+      moved_use s (with_row S m last) uses all m i kind (to_all all uses same) fails,
+      sites,
+      λ j k lt f. none j k lt (moved_use s (with_row S m last) all uses m j k (from_all all uses same) f),
+    );
+    none_before = λ k earlier lt given f. quiet k earlier (was k lt) (meets k lt) given f;
+  }
+
+  -- or where the condition of a site does
+  pub first_site : AreUses s all → (m : ℕ) (row last : Row) → AreInputs s m row → AreTaken s S m uses row last → MeetsBefore s S m → ((k : ℕ) → k < m → WasTaken s uses S k)
+      → (site : ℕ) (kind : Fail) → SiteFails s (with_row S m last) m site kind → ((j : ℕ) (k : Fail) → j < site → SiteFails s (with_row S m last) m j k → ⊥) → IsFirstFault s S m (place.Site site) kind
+  first_site uses_are m row last are taken meets was site kind fails none = record {
+    meets = meets;
+    uses = all;
+    uses_are = uses_are;
+    row = last;
+    given = taken_given s model.unclocked model.inputs S m uses model.order row are all last same taken;
+    first = (fails, none);
+    none_before = λ k earlier lt given f. quiet k earlier (was k lt) (meets k lt) given f;
+  }
