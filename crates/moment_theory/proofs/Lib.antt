@@ -21,6 +21,9 @@ pub mod PartsRest
 pub mod Relabel
 pub mod Rows
 pub mod Running
+pub mod Settled
+pub mod Once
+pub mod Moved
 pub mod Composed
 pub mod Windowed
 pub mod MetTaken

@@ -4,6 +4,8 @@ use Rattle.flat_model.specs.declared.equation.Equation.{Equation}
 use Rattle.flat_model.specs.declared.equation.Equation.TheVariants.{Valued, Clocks}
 use Rattle.flat_model.specs.declared.expression.Expr.{Expr}
 use Rattle.flat_model.specs.Occurrences.{bare_count, held_count, converted_count}
+use Rattle.flat_model.specs.Order.{IsOrder}
+use Rattle.flat_model.specs.Runnable.{IsRunnable}
 use Rattle.flat_model.specs.Setting.{Setting, class_of_name, class_of_equation, clock_of}
 use Rattle.flat_model.specs.Uses.{Use, Reads, SiteReads}
 
@@ -40,3 +42,10 @@ AreFree s (entry ∷ later) = IsFree s entry later × AreFree s later
 pub record AreSameUses (uses order : List Use) : Type 0 where
   pub all : (entry : Use) → Contains uses entry → Contains order entry
   pub only : (entry : Use) → Contains order entry → Contains uses entry
+
+-- a runnable setting, its uses, and a free order of them
+pub record IsOrdered (s : Setting) (uses order : List Use) : Type 0 where
+  pub runs : IsRunnable s
+  pub uses_are : IsOrder s uses
+  pub same : AreSameUses uses order
+  pub free : AreFree s order

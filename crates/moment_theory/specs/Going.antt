@@ -1,10 +1,16 @@
 -- How what was found before a moment goes on: an assignment that meets the model, alone in that.
-use Rattle.std.specs.Prelude.{◌≡◌, ℕ, ◌<◌, ◌≤◌, List}
+use Rattle.std.specs.Prelude.{◌≡◌, ℕ, ◌<◌, ◌≤◌, Bool, List, Contains, Some, slice_get}
+use Rattle.sync_values.specs.declared.value.Value.{Value}
+use Rattle.sync_values.specs.declared.value.Value.TheVariants as value
+use Rattle.flat_model.specs.declared.equation.Equation.{Equation}
+use Rattle.flat_model.specs.declared.expression.Expr.{Expr}
+use Rattle.flat_model.specs.declared.model.FlatName.{FlatName}
+use Rattle.flat_model.specs.Operators.{Is}
 use Rattle.flat_model.specs.Assignment.{Assignment}
-use Rattle.flat_model.specs.Setting.{Setting}
+use Rattle.flat_model.specs.Setting.{Setting, site_answer}
 use Rattle.flat_model.specs.Meets.{MeetsBefore}
 use Rattle.flat_model.specs.Uses.{Use}
-use Rattle.flat_model.specs.Given.{Row, with_row, IsGiven}
+use Rattle.flat_model.specs.Given.{Row, with_row, IsGiven, CanUse, IsOnlySolution}
 use Rattle.flat_model.specs.Faults.{SomethingFails}
 
 -- two assignments have the same values before m
@@ -26,3 +32,12 @@ pub record HasRun (s : Setting) (uses : List Use) (S : Assignment) (n : ℕ) : T
   pub meets : MeetsBefore s S n
   pub only : (k : ℕ) → k ≤ n → (T : Assignment) → MeetsBefore s T k → AgreeBefore S T k
   pub quiet : IsQuietBefore s uses S n
+
+-- the condition of each site has a value at m
+abbrev pub SitesHold : Setting → Assignment → ℕ → Type 0
+SitesHold s S m = (site : ℕ) (condition : Expr) → slice_get s.clocking.sites site ≡ Some condition → (b : Bool) × (site_answer s S site m ≡ Is (value.Bool b))
+
+-- each use that counts at m gives a value
+abbrev pub AllSolved : Setting → Assignment → List Use → ℕ → Type 0
+AllSolved s S uses m = (entry : Use) (equation : Equation) (name : FlatName) → Contains uses entry → CanUse s S m entry equation name
+    → (v : Value) × IsOnlySolution s S m entry.equation equation name entry.name v

@@ -1,6 +1,46 @@
-ghost use Rattle.moment_theory.specs.Laws.{GivenLaw};
+ghost use Rattle.moment_theory.specs.Laws.{GivenLaw, OrderLaw, NextLaw, StopLaw, FaultLaw, MetLaw, OnlyLaw, OneFaultLaw, WholeLaw};
 
-/// Uses taken in a free order give exactly the given values.
+/// Uses taken in a free order over the inputs give exactly the given values.
 pub fn given_law()
     ensures { GivenLaw }
+{}
+
+/// Whatever free order is taken, the values are the same.
+pub fn order_law()
+    ensures { OrderLaw }
+{}
+
+/// Where each site and each use has a value, what meets the model before a moment goes on, alone.
+pub fn next_law()
+    ensures { NextLaw }
+{}
+
+/// Where something fails over the given values, nothing meets the model up to the moment.
+pub fn stop_law()
+    ensures { StopLaw }
+{}
+
+/// What fails first where nothing failed before is the first fault.
+pub fn fault_law()
+    ensures { FaultLaw }
+{}
+
+/// What meets a model before a moment of the run is alone in that, and nothing failed.
+pub fn met_law()
+    ensures { MetLaw }
+{}
+
+/// Two assignments that meet a model up to a moment have the same values.
+pub fn only_law()
+    ensures { OnlyLaw }
+{}
+
+/// A run has at most one first fault.
+pub fn one_fault_law()
+    ensures { OneFaultLaw }
+{}
+
+/// A run that an assignment meets up to its last moment has no first fault.
+pub fn whole_law()
+    ensures { WholeLaw }
 {}
