@@ -21,6 +21,7 @@ pub mod PartsRest
 pub mod Relabel
 pub mod Rows
 pub mod Running
+pub mod Answered
 pub mod Settled
 pub mod Once
 pub mod Moved

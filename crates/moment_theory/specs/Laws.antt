@@ -1,5 +1,5 @@
 -- Laws of the values that uses give, and of a run.
-use Rattle.std.specs.Prelude.{◌≡◌, ℕ, suc, ◌<◌, ◌≤◌, List, length, Option, Some}
+use Rattle.std.specs.Prelude.{◌≡◌, ℕ, suc, ◌<◌, ◌≤◌, ◌⊎◌, List, length, Option, Some}
 use Rattle.sync_values.specs.declared.value.Fail.{Fail}
 use Rattle.flat_model.specs.declared.clock.Moment.{Moment}
 use Rattle.flat_model.specs.declared.fault.FaultPlace.{FaultPlace}
@@ -8,6 +8,7 @@ use Rattle.flat_model.specs.Faults.{SomethingFails, IsFirstToFail, IsFirstFault}
 use Rattle.flat_model.specs.Given.{Row, with_row, IsGiven}
 use Rattle.flat_model.specs.Meets.{Meets, MeetsBefore}
 use Rattle.flat_model.specs.Moments.{moment_at}
+use Rattle.flat_model.specs.Runs.{IsWholeRun, IsFaultedRun}
 use Rattle.flat_model.specs.Setting.{Setting}
 use Rattle.flat_model.specs.Uses.{Use}
 use Rattle.moment_theory.specs.Free.{AreFree, AreSameUses, IsOrdered}
@@ -63,3 +64,12 @@ OneFaultLaw = (s : Setting) (uses order : List Use) → IsOrdered s uses order �
 abbrev pub WholeLaw : Type 0
 WholeLaw = (s : Setting) (uses order : List Use) → IsOrdered s uses order → (S T : Assignment) (m n : ℕ) → m ≤ n → n ≤ length s.instants → Meets s S n
     → (at : FaultPlace) (kind : Fail) → IsFirstFault s T m at kind → ⊥
+
+-- a run: an assignment meets the model to its end, or there is a first fault
+abbrev pub IsRun : Setting → List ℕ → List ℕ → Type 0
+IsRun s out err = IsWholeRun s out err ⊎ IsFaultedRun s out err
+
+-- what it puts on out and err is one
+abbrev pub OneRunLaw : Type 0
+OneRunLaw = (s : Setting) (uses order : List Use) → IsOrdered s uses order → (out err text line : List ℕ) → IsRun s out err → IsRun s text line
+    → (out ≡ text) × (err ≡ line)

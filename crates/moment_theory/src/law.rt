@@ -1,4 +1,4 @@
-ghost use Rattle.moment_theory.specs.Laws.{GivenLaw, OrderLaw, NextLaw, StopLaw, FaultLaw, MetLaw, OnlyLaw, OneFaultLaw, WholeLaw};
+ghost use Rattle.moment_theory.specs.Laws.{GivenLaw, OrderLaw, NextLaw, StopLaw, FaultLaw, MetLaw, OnlyLaw, OneFaultLaw, WholeLaw, OneRunLaw};
 
 /// Uses taken in a free order over the inputs give exactly the given values.
 pub fn given_law()
@@ -43,4 +43,9 @@ pub fn one_fault_law()
 /// A run that an assignment meets up to its last moment has no first fault.
 pub fn whole_law()
     ensures { WholeLaw }
+{}
+
+/// What a run puts on out and err is one, whether it ends well or with a fault.
+pub fn one_run_law()
+    ensures { OneRunLaw }
 {}
