@@ -5,6 +5,7 @@ use Rattle.flat_model.specs.Setting.{Setting}
 use Rattle.flat_model.specs.Uses.{Use}
 use Rattle.flat_model.specs.Given.{Row}
 use Rattle.flat_model.proofs.OneSolution.{AreSitesUnclocked}
+use Rattle.moment_theory.specs.Division.{joined}
 use Rattle.moment_theory.specs.Free.{IsReachedBy}
 use Rattle.moment_theory.proofs.Ordered.{AreFreeUses}
 use Rattle.moment_theory.specs.Taken.{AreTaken}
@@ -12,11 +13,7 @@ use Rattle.moment_theory.proofs.Transfer.{IsSound}
 use Rattle.moment_theory.proofs.Taking.{IsClear, over}
 use Rattle.moment_theory.proofs.Apart.{HoldsNeeds, IsBeside, beside}
 
-abbrev pub joined : List (List Use) → List Use
-joined [] = []
-joined (piece ∷ pieces) = piece ++ joined pieces
-
-reached_either : (a b : List Use) (y : ℕ) → IsReachedBy y (a ++ b) → IsReachedBy y a ⊎ IsReachedBy y b
+pub reached_either : (a b : List Use) (y : ℕ) → IsReachedBy y (a ++ b) → IsReachedBy y a ⊎ IsReachedBy y b
 reached_either [] b y h = inr h
 reached_either (first ∷ a) b y (inl is) = inl (inl is)
 reached_either (first ∷ a) b y (inr h) = elim (reached_either a b y h) [
@@ -24,16 +21,16 @@ reached_either (first ∷ a) b y (inr h) = elim (reached_either a b y h) [
   | inr other ↦ inr other
 ]
 
-reached_first : (a b : List Use) (y : ℕ) → IsReachedBy y a → IsReachedBy y (a ++ b)
+pub reached_first : (a b : List Use) (y : ℕ) → IsReachedBy y a → IsReachedBy y (a ++ b)
 reached_first [] b y h = absurd h
 reached_first (first ∷ a) b y (inl is) = inl is
 reached_first (first ∷ a) b y (inr h) = inr (reached_first a b y h)
 
-reached_second : (a b : List Use) (y : ℕ) → IsReachedBy y b → IsReachedBy y (a ++ b)
+pub reached_second : (a b : List Use) (y : ℕ) → IsReachedBy y b → IsReachedBy y (a ++ b)
 reached_second [] b y h = h
 reached_second (first ∷ a) b y h = inr (reached_second a b y h)
 
-regroup : (a b c : List Use) → (a ++ b) ++ c ≡ a ++ (b ++ c)
+pub regroup : (a b c : List Use) → (a ++ b) ++ c ≡ a ++ (b ++ c)
 regroup [] b c = refl
 regroup (first ∷ a) b c = ap (λ r. first ∷ r) (regroup a b c)
 

@@ -89,7 +89,7 @@ module _ (s : Setting) (facts : Facts s) (entry : Use) (use_is : UseFacts s entr
     | inr reached ↦ let one = stands_bare entry.name use_is.right reached in let total = use_is.solvable.0 in not_last entry.name use_is.right (omega (arith, one, total)) (omega (arith, one, total))
   ]
 
-  class_of_use : class_of_name s entry.name ≡ class_of_equation s entry.equation
+  pub class_of_use : class_of_name s entry.name ≡ class_of_equation s entry.equation
   class_of_use = let sides = facts.classed.sides entry.equation use_is.left use_is.right use_is.clause use_is.found in elim use_is.solvable.1 [
     | inl reached ↦ (sides.0.bare entry.name (let one = stands_bare entry.name use_is.left reached in omega (arith, one))).1
     | inr reached ↦ (sides.1.bare entry.name (let one = stands_bare entry.name use_is.right reached in omega (arith, one))).1

@@ -5,6 +5,7 @@ use Rattle.std.proofs.lemmas.Option.{same_Some}
 use Rattle.flat_model.specs.declared.equation.Equation.{Equation}
 use Rattle.flat_model.specs.Setting.{Setting}
 use Rattle.flat_model.specs.Uses.{Use, EquationReads, IsUnreached, CanReach, IsNextUse, AreUsesAfter, AreUses, reached_names}
+use Rattle.moment_theory.specs.Division.{uses_where}
 use Rattle.moment_theory.specs.Free.{IsReachedBy}
 use Rattle.moment_theory.proofs.Members.{IsMember}
 
@@ -58,25 +59,20 @@ uses_read_free s done (entry ∷ rest) are = (
 pub read_free : (s : Setting) (uses : List Use) → AreUses s uses → AreReadFree s uses
 read_free s uses are = uses_read_free s [] uses are
 
--- the uses that pass a test, in their order
-abbrev pub kept : (Use → Bool) → List Use → List Use
-kept p [] = []
-kept p (entry ∷ uses) = if p entry then (entry ∷ kept p uses) else kept p uses
-
-reached_kept : (p : Use → Bool) (uses : List Use) (y : ℕ) → IsReachedBy y (kept p uses) → IsReachedBy y uses
+reached_kept : (p : Use → Bool) (uses : List Use) (y : ℕ) → IsReachedBy y (uses_where p uses) → IsReachedBy y uses
 reached_kept p [] y h = h
 reached_kept p (entry ∷ uses) y h = by_test (p entry) (reached_kept p uses y) h
   where
-    by_test : (b : Bool) → (IsReachedBy y (kept p uses) → IsReachedBy y uses) → IsReachedBy y (if b then (entry ∷ kept p uses) else kept p uses) → IsReachedBy y (entry ∷ uses)
+    by_test : (b : Bool) → (IsReachedBy y (uses_where p uses) → IsReachedBy y uses) → IsReachedBy y (if b then (entry ∷ uses_where p uses) else uses_where p uses) → IsReachedBy y (entry ∷ uses)
     by_test true rest (inl is) = inl is
     by_test true rest (inr h) = inr (rest h)
     by_test false rest h = inr (rest h)
 
-pub kept_free : (s : Setting) (p : Use → Bool) (uses : List Use) → AreReadFree s uses → AreReadFree s (kept p uses)
+pub kept_free : (s : Setting) (p : Use → Bool) (uses : List Use) → AreReadFree s uses → AreReadFree s (uses_where p uses)
 kept_free s p [] free = tt
 kept_free s p (entry ∷ uses) free = by_test (p entry) (kept_free s p uses free.2)
   where
-    by_test : (b : Bool) → AreReadFree s (kept p uses) → AreReadFree s (if b then (entry ∷ kept p uses) else kept p uses)
+    by_test : (b : Bool) → AreReadFree s (uses_where p uses) → AreReadFree s (if b then (entry ∷ uses_where p uses) else uses_where p uses)
     by_test true rest = ((λ equation y found reads h. free.0 equation y found reads (reached_kept p uses y h)), (λ h. free.1 (reached_kept p uses entry.name h)), rest)
     by_test false rest = rest
 

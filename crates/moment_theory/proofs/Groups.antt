@@ -18,12 +18,9 @@ use Rattle.flat_model.proofs.Above.{IsBelow}
 use Rattle.flat_model.specs.Asks.{Asking, OfNow, OfLast, OfPrevious, OfFirst, OfInterval, asked}
 use Rattle.flat_model.proofs.Asks.{SameAt, value_rests_on_asked, above_both}
 use Rattle.flat_model.specs.Uses.{SiteReads}
+use Rattle.moment_theory.specs.Groups.{AgreeOnUpTo, IsWithin}
 use Rattle.moment_theory.proofs.Rows.{below_same}
 use Rattle.flat_model.proofs.Sites.{site_up}
-
--- two assignments have the same values of some names up to m
-abbrev pub SameNamesUpTo : (ℕ → Type 0) → Assignment → Assignment → ℕ → Type 0
-SameNamesUpTo N S T m = (x k : ℕ) → N x → k ≤ m → S x k ≡ T x k
 
 rises_local : (s : Setting) (S T : Assignment) (site k : ℕ) → ((j : ℕ) → j ≤ k → site_answer s S site j ≡ site_answer s T site j) → rises s S site k ≡ rises s T site k
 rises_local s S T site zero same = refl
@@ -53,9 +50,9 @@ interval_same s f g k (Some (Periodic period start)) same = refl
 interval_same s f g k (Some (Event site factor shift)) same =
     ap (λ o. elim o as (λ _. Length) [ None ↦ record { num = 0; den = 1 } | Some j ↦ time_between (moment_at s.instants j) (moment_at s.instants k) ]) (tick_before_same f g k same)
 
-module _ (s : Setting) (unclocked : AreSitesUnclocked s) (N : ℕ → Type 0) (S T : Assignment) (m : ℕ) (same : SameNamesUpTo N S T m) where
+module _ (s : Setting) (unclocked : AreSitesUnclocked s) (N : ℕ → Bool) (S T : Assignment) (m : ℕ) (same : AgreeOnUpTo N S T m) where
   -- a class whose site reads names of the group alone ticks alike
-  pub class_local : (class : Option ℕ) → ((y : ℕ) → SiteReads s class y → N y) → (k : ℕ) → k ≤ m → class_ticks s S class k ≡ class_ticks s T class k
+  pub class_local : (class : Option ℕ) → ((y : ℕ) → SiteReads s class y → N y ≡ true) → (k : ℕ) → k ≤ m → class_ticks s S class k ≡ class_ticks s T class k
   class_local None holds k le = refl
   class_local (Some class) holds k le = in_local s S T k (slice_get s.clocking.clocks class)
       (λ site f g j e less. above_both _ _
@@ -63,21 +60,17 @@ module _ (s : Setting) (unclocked : AreSitesUnclocked s) (N : ℕ → Type 0) (S
       (site_up s T S site j unclocked (λ condition y found some. below_same _ _ (sym (same y j (holds y (site, f, g, condition, e, found, some)) (omega (arith, le, less)))))))
 
   -- an expression that asks for names of the group alone, in an equation of one of its classes, has one value
-  pub value_local : (e : Expr) (class : Option ℕ) → ((y : ℕ) → SiteReads s class y → N y)
-      → ((d x : ℕ) → 0 < asked e d (OfNow x) → N x)
-      → ((d x : ℕ) → (0 < asked e d (OfLast x)) → N x × ((y : ℕ) → SiteReads s (class_of_name s x) y → N y))
-      → ((d x : ℕ) → (0 < asked e d (OfPrevious x)) → N x × ((y : ℕ) → SiteReads s (class_of_name s x) y → N y))
-      → value_of e (views_at s S class m) ≡ value_of e (views_at s T class m)
-  value_local e class holds now last previous = value_rests_on_asked e _ _ (λ d q some. at_asked d q some)
+  pub value_local : (e : Expr) (class : Option ℕ) → IsWithin s N class e → value_of e (views_at s S class m) ≡ value_of e (views_at s T class m)
+  value_local e class within = value_rests_on_asked e _ _ (λ d q some. at_asked d q some)
     where
       at_asked : (d : ℕ) (q : Asking) → 0 < asked e d q → SameAt (views_at s S class m) (views_at s T class m) d q
-      at_asked d (OfNow x) some = same x (m - d) (now d x some) (omega arith)
-      at_asked d (OfLast x) some = let h = last d x some in
-          previous_same (name_ticks s S x) (name_ticks s T x) (S x) (T x) (start_of s x) (suc (m - d)) (λ j lt. class_local (class_of_name s x) h.1 j (omega (arith, lt))) (λ j lt. same x j h.0 (omega (arith, lt)))
-      at_asked d (OfPrevious x) some = let h = previous d x some in
-          previous_same (name_ticks s S x) (name_ticks s T x) (S x) (T x) (start_of s x) (m - d) (λ j lt. class_local (class_of_name s x) h.1 j (omega (arith, lt))) (λ j lt. same x j h.0 (omega (arith, lt)))
-      at_asked d OfFirst some = ap is_none (tick_before_same (class_ticks s S class) (class_ticks s T class) (m - d) (λ j lt. class_local class holds j (omega (arith, lt))))
-      at_asked d OfInterval some = interval_same s (class_ticks s S class) (class_ticks s T class) (m - d) (clock_of s class) (λ j lt. class_local class holds j (omega (arith, lt)))
+      at_asked d (OfNow x) some = same x (m - d) (within.now d x some) (omega arith)
+      at_asked d (OfLast x) some = let h = within.last d x some in
+          previous_same (name_ticks s S x) (name_ticks s T x) (S x) (T x) (start_of s x) (suc (m - d)) (λ j lt. class_local (class_of_name s x) h.clock j (omega (arith, lt))) (λ j lt. same x j h.own (omega (arith, lt)))
+      at_asked d (OfPrevious x) some = let h = within.previous d x some in
+          previous_same (name_ticks s S x) (name_ticks s T x) (S x) (T x) (start_of s x) (m - d) (λ j lt. class_local (class_of_name s x) h.clock j (omega (arith, lt))) (λ j lt. same x j h.own (omega (arith, lt)))
+      at_asked d OfFirst some = ap is_none (tick_before_same (class_ticks s S class) (class_ticks s T class) (m - d) (λ j lt. class_local class within.clock j (omega (arith, lt))))
+      at_asked d OfInterval some = interval_same s (class_ticks s S class) (class_ticks s T class) (m - d) (clock_of s class) (λ j lt. class_local class within.clock j (omega (arith, lt)))
 
 -- ---- what a part keeps
 

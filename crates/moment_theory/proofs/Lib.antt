@@ -18,9 +18,11 @@ pub mod Meeting
 pub mod NoSolution
 pub mod Ordered
 pub mod PartsRest
-pub mod Relabel
+pub mod Renamed
 pub mod Rows
 pub mod Running
+pub mod Pieces
+pub mod Divided
 pub mod Answered
 pub mod Settled
 pub mod Once

@@ -6,6 +6,7 @@ use Rattle.flat_model.specs.Setting.{Setting}
 use Rattle.flat_model.specs.Uses.{Use, AreUses}
 use Rattle.flat_model.specs.Given.{Row}
 use Rattle.moment_theory.specs.Going.{AgreeBefore}
+use Rattle.moment_theory.specs.Division.{joined}
 use Rattle.moment_theory.specs.Free.{IsReachedBy}
 use Rattle.moment_theory.proofs.Ordered.{AreFreeUses}
 use Rattle.moment_theory.specs.Taken.{AreTaken, AreInputs}
@@ -14,7 +15,7 @@ use Rattle.moment_theory.proofs.Taking.{over, taken_sound}
 use Rattle.moment_theory.proofs.GivenByOrder.{AreSameMembers, inputs_clear, inputs_sound}
 use Rattle.moment_theory.proofs.Apart.{append_taken}
 use Rattle.moment_theory.proofs.Running.{IsReady}
-use Rattle.moment_theory.proofs.Beside.{joined, AreApart, AreAlone, HasEach, Together, all_beside}
+use Rattle.moment_theory.proofs.Beside.{AreApart, AreAlone, HasEach, Together, all_beside}
 use Rattle.moment_theory.proofs.Windowed.{IsTakenAt}
 
 module _ (s : Setting) (all planned : List Use) (pieces : List (List Use)) (model : IsReady s (planned ++ joined pieces)) (are_uses : AreUses s all) (same : AreSameMembers all (planned ++ joined pieces))

@@ -1,3 +1,4 @@
+ghost use Rattle.moment_theory.specs.PieceLaws.{DivisionLaw, GroupLaw, GroupTickLaw, PiecesLaw, RenamedLaw};
 ghost use Rattle.moment_theory.specs.Laws.{GivenLaw, OrderLaw, NextLaw, StopLaw, FaultLaw, MetLaw, OnlyLaw, OneFaultLaw, WholeLaw, OneRunLaw};
 
 /// Uses taken in a free order over the inputs give exactly the given values.
@@ -48,4 +49,29 @@ pub fn whole_law()
 /// What a run puts on out and err is one, whether it ends well or with a fault.
 pub fn one_run_law()
     ensures { OneRunLaw }
+{}
+
+/// The order of a moment is a free order: pure uses, then those of each base partition, then the other unclocked ones.
+pub fn division_law()
+    ensures { DivisionLaw }
+{}
+
+/// Pieces of the uses that need nothing of each other give the same side by side as one behind the other.
+pub fn pieces_law()
+    ensures { PiecesLaw }
+{}
+
+/// When a class ticks rests on the names that its clock waits for.
+pub fn group_tick_law()
+    ensures { GroupTickLaw }
+{}
+
+/// What an expression gives rests on the names that it asks for, at the moment and at those before it.
+pub fn group_law()
+    ensures { GroupLaw }
+{}
+
+/// An expression with other numbers for its names means the same, seen through the renaming.
+pub fn renamed_law()
+    ensures { RenamedLaw }
 {}

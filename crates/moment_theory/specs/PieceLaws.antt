@@ -1,0 +1,42 @@
+-- Laws of the order of a moment, of pieces of it, of groups of names, and of renamed expressions.
+use Rattle.std.specs.Prelude.{◌≡◌, ℕ, ◌≤◌, ◌++◌, Bool, List, Option}
+use Rattle.flat_model.specs.declared.expression.Expr.{Expr}
+use Rattle.flat_model.specs.Assignment.{Assignment}
+use Rattle.flat_model.specs.Given.{Row}
+use Rattle.flat_model.specs.Meaning.{value_of}
+use Rattle.flat_model.specs.Runnable.{IsRunnable}
+use Rattle.flat_model.specs.Setting.{Setting, class_ticks, views_at}
+use Rattle.flat_model.specs.Uses.{Use, AreUses}
+use Rattle.flat_model.specs.Views.{Views}
+use Rattle.moment_theory.specs.Division.{ArePure, ArePartitionsBelow, joined, moment_order}
+use Rattle.moment_theory.specs.Free.{AreFree, AreSameUses, IsOrdered}
+use Rattle.moment_theory.specs.Groups.{AgreeOnUpTo, IsClockWithin, IsWithin}
+use Rattle.moment_theory.specs.Pieces.{AreApart, AreTakenAlone, AreBeside}
+use Rattle.moment_theory.specs.Renamed.{renamed, views_through}
+use Rattle.moment_theory.specs.Taken.{AreInputs, AreTaken}
+
+-- the pure uses, those of each base partition and the unclocked ones that wait for a clock are, in this order, a free order of all uses
+abbrev pub DivisionLaw : Type 0
+DivisionLaw = (s : Setting) (uses : List Use) (pure : Use → Bool) (count : ℕ) → IsRunnable s → AreUses s uses → ArePure s uses pure → ArePartitionsBelow s count
+    → AreSameUses uses (moment_order s pure count uses) × AreFree s (moment_order s pure count uses)
+
+-- pieces that need nothing of each other, each taken by itself from what the first uses gave, are taken one behind the other
+abbrev pub PiecesLaw : Type 0
+PiecesLaw = (s : Setting) (uses first rest : List Use) (pieces : List (List Use)) → IsOrdered s uses (first ++ (joined pieces ++ rest)) → AreApart s pieces
+    → (S : Assignment) (m : ℕ) (inputs base : Row) → AreInputs s m inputs → AreTaken s S m first inputs base
+    → (owns : ℕ → Row) → AreTakenAlone s S m base owns pieces
+    → (row : Row) × AreTaken s S m (first ++ joined pieces) inputs row × AreBeside base owns pieces row
+
+-- when a class ticks rests on the group that its clock waits for
+abbrev pub GroupTickLaw : Type 0
+GroupTickLaw = (s : Setting) (group : ℕ → Bool) (S T : Assignment) (m : ℕ) → IsRunnable s → AgreeOnUpTo group S T m
+    → (class : Option ℕ) → IsClockWithin s group class → (k : ℕ) → k ≤ m → class_ticks s S class k ≡ class_ticks s T class k
+
+-- and the value of an expression at a moment on the group that it asks for
+abbrev pub GroupLaw : Type 0
+GroupLaw = (s : Setting) (group : ℕ → Bool) (S T : Assignment) (m : ℕ) → IsRunnable s → AgreeOnUpTo group S T m
+    → (e : Expr) (class : Option ℕ) → IsWithin s group class e → value_of e (views_at s S class m) ≡ value_of e (views_at s T class m)
+
+-- a renamed expression has the value of the expression, seen through the renaming
+abbrev pub RenamedLaw : Type 0
+RenamedLaw = (place : ℕ → ℕ) (e : Expr) (views : Views) → value_of (renamed place e) views ≡ value_of e (views_through place views)
