@@ -11,6 +11,7 @@ use Rattle.flat_model.specs.Setting.{Setting, flattened, class_of_name, class_of
 use Rattle.flat_model.specs.Uses.{Use, ReadsIn, EquationReads, Reads, AreUses, SiteReads}
 use Rattle.moment_theory.specs.Division.{uses_where, IsReachedWhere, ArePure, is_number, is_of_partition, is_waiting, parts_from, joined, moment_order, ArePartitionsBelow}
 use Rattle.moment_theory.specs.Free.{AsksLast, AsksClass, IsReachedBy, IsFree, AreFree, AreSameUses}
+use Rattle.moment_theory.specs.Pieces.{AreApart}
 use Rattle.moment_theory.proofs.Facts.{Facts, UseFacts, facts_of_use, class_of_use}
 use Rattle.moment_theory.proofs.FromRunnable.{facts_of, all_at, element}
 use Rattle.moment_theory.proofs.FromUses.{AreReadFree, read_free, kept_free, append_free}
@@ -330,3 +331,28 @@ module _ (s : Setting) (runs : IsRunnable s) (uses : List Use) (are : AreUses s 
       all = λ entry used. member_contains entry (moment_order s pure count uses) (all_within below entry (contains_member entry uses used));
       only = λ entry used. member_contains entry uses (within entry (contains_member entry (moment_order s pure count uses) used));
     }
+
+    -- the uses of two base partitions
+    part_at : (k rest i : ℕ) (piece : List Use) → slice_get (parts_from s uses k rest) i ≡ Some piece → (entry : Use) → IsMember entry piece → IsMember entry uses × (place entry ≡ Some (k + i))
+    part_at k zero i piece found entry member = absurd (none-some piece found)
+    part_at k (suc rest) zero piece found entry member =
+        let own = part_from k entry (subst (IsMember entry) (sym (same_Some (uses_where (is_of_partition s k) uses) piece found)) member) in
+        (own.0, own.1 ∙ ap Some (let e : k ≡ k + 0 = omega arith in e))
+    part_at k (suc rest) (suc i) piece found entry member =
+        let (use_is, at) = part_at (suc k) rest i piece found entry member in (use_is, at ∙ ap Some (let e : suc k + i ≡ k + suc i = omega arith in e))
+
+    two_places : (i j : ℕ) (o : Option ℕ) → o ≡ Some (0 + i) → o ≡ Some (0 + j) → i ≢ j → ⊥
+    two_places i j o one two other = other (let same : 0 + i ≡ 0 + j = same_Some (0 + i) (0 + j) (sym one ∙ two) in omega (arith, same))
+
+    -- need nothing of each other
+    pub parts_apart : AreApart s (parts_from s uses 0 count)
+    parts_apart i j piece others entry y other found there used asks reached =
+        let own = part_at 0 count i piece found entry (contains_member entry piece used) in
+        let (there_use, member, same) = member_reached others y reached in
+        let theirs = part_at 0 count j others there there_use member in elim asks [
+          | inl is ↦ two_places i j (place there_use) (names_place entry there_use own.0 theirs.0 (sym is ∙ same) ∙ own.1) theirs.1 other
+          | inr needs ↦ elim needs [
+            | inl reads ↦ two_places i j (place there_use) (reads_place entry there_use reads.1.0 y own.0 theirs.0 same reads.1.1 reads.1.2 (0 + i) own.1) theirs.1 other
+            | inr site ↦ not_pure y (is_pure.sites site.0 y site.2 (subst (λ z. IsReachedBy z uses) (sym same) (reached_member uses there_use theirs.0))) there_use theirs.0 same (clocked_impure there_use theirs.0 (0 + j) theirs.1)
+          ]
+        ]

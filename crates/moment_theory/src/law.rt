@@ -1,4 +1,4 @@
-ghost use Rattle.moment_theory.specs.PieceLaws.{DivisionLaw, GroupLaw, GroupTickLaw, PiecesLaw, RenamedLaw};
+ghost use Rattle.moment_theory.specs.PieceLaws.{DivisionLaw, GroupLaw, GroupTickLaw, PartitionsLaw, PiecesLaw, RenamedLaw};
 ghost use Rattle.moment_theory.specs.Laws.{GivenLaw, OrderLaw, NextLaw, StopLaw, FaultLaw, MetLaw, OnlyLaw, OneFaultLaw, WholeLaw, OneRunLaw};
 
 /// Uses taken in a free order over the inputs give exactly the given values.
@@ -54,6 +54,11 @@ pub fn one_run_law()
 /// The order of a moment is a free order: pure uses, then those of each base partition, then the other unclocked ones.
 pub fn division_law()
     ensures { DivisionLaw }
+{}
+
+/// The uses of two base partitions need nothing of each other.
+pub fn partitions_law()
+    ensures { PartitionsLaw }
 {}
 
 /// Pieces of the uses that need nothing of each other give the same side by side as one behind the other.
