@@ -95,7 +95,7 @@ module _ (s : Setting) (facts : Facts s) (entry : Use) (use_is : UseFacts s entr
     | inr reached ↦ (sides.1.bare entry.name (let one = stands_bare entry.name use_is.right reached in omega (arith, one))).1
   ]
 
-  free_use : (later : List Use) → IsFree s entry later → IsFreeUse s entry later
+  pub free_use : (later : List Use) → IsFree s entry later → IsFreeUse s entry later
   free_use later free = record {
     left = use_is.left;
     right = use_is.right;

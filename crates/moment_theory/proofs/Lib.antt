@@ -21,6 +21,8 @@ pub mod PartsRest
 pub mod Renamed
 pub mod Rows
 pub mod Running
+pub mod Alike
+pub mod SameUse
 pub mod Pieces
 pub mod Divided
 pub mod Answered

@@ -18,6 +18,7 @@ use Rattle.flat_model.specs.Asks.{Asking, OfNow, OfLast, OfPrevious, OfFirst, Of
 use Rattle.flat_model.proofs.Asks.{SameAt}
 use Rattle.flat_model.proofs.Links.{asked_bare, asked_last}
 use Rattle.moment_theory.proofs.PartsRest.{SameBut, same_without}
+use Rattle.moment_theory.proofs.Alike.{same_but}
 use Rattle.moment_theory.proofs.Alone.{is_formed, alone}
 use Rattle.moment_theory.proofs.Groups.{interval_same}
 use Rattle.moment_theory.proofs.Rows.{value_now, value_other, value_before, unclocked_at_first}
@@ -54,67 +55,27 @@ module _ (s : Setting) (unclocked : AreSitesUnclocked s) (S : Assignment) (m i x
   other_same : (y : ℕ) → y ≢ x → A y m ≡ B y m
   other_same y other = value_other S m x v y other ∙ sym (value_other S m x w y other)
 
-  ticks_earlier : (c : Option ℕ) (j : ℕ) → j < m → class_ticks s A c j ≡ class_ticks s B c j
-  ticks_earlier c j lt = class_ticks_same s A B c j j (λ y n le. same y n (omega (arith, le, lt))) (omega arith)
-
   ticks_alike : (z : ℕ) → (SiteReads s (class_of_name s z) x → ⊥) → name_ticks s A z m ≡ name_ticks s B z m
   ticks_alike z not = class_ticks_by_site s A B (class_of_name s z) m same
       (site_same s A B m (class_of_name s z) unclocked (λ y reads. other_same y (λ is. not (subst (SiteReads s (class_of_name s z)) is reads))))
 
-  at_field : (q : Asking) (a b : View) → a ≡ b → SameAt (λ back. a) (λ back. b) 0 q
-  at_field (OfNow y) a b e = ap (λ view. view.now y) e
-  at_field (OfLast y) a b e = ap (λ view. view.last y) e
-  at_field (OfPrevious y) a b e = ap (λ view. view.previous y) e
-  at_field OfFirst a b e = ap (λ view. view.first) e
-  at_field OfInterval a b e = ap (λ view. view.interval) e
-
-  at_back : (q : Asking) (a b : Views) (d : ℕ) → SameAt (λ back. a d) (λ back. b d) 0 q → SameAt a b d q
-  at_back (OfNow y) a b d h = h
-  at_back (OfLast y) a b d h = h
-  at_back (OfPrevious y) a b d h = h
-  at_back OfFirst a b d h = h
-  at_back OfInterval a b d h = h
-
-  -- at an earlier moment nothing differs
-  back_same : (k d : ℕ) (q : Asking) → m ≡ suc k → SameAt (views_at s A class m) (views_at s B class m) (suc d) q
-  back_same k d q at = at_back q (views_at s A class m) (views_at s B class m) (suc d)
-      (at_field q (view_at s A class (m - suc d)) (view_at s B class (m - suc d)) (view_same s A B class k (m - suc d) (λ y n le. same y n (omega (arith, le, at))) (omega (arith, at))))
-
-  module _ (e : Expr) (side : IsSideOnce s i x e) where
-    last_here : (y k : ℕ) → k ≡ m → AsksLastIn e y → (view_at s A class k).last y ≡ (view_at s B class k).last y
-    last_here y k at asks = subst (λ n. (view_at s A class n).last y ≡ (view_at s B class n).last y) (sym at)
-        (last_same (name_ticks s A y) (name_ticks s B y) (A y) (B y) (start_of s y) m (ticks_alike y (side.sites y asks))
-        (λ t. other_same y (λ is. side.own (subst (AsksLastIn e) is asks))) (λ j lt. ticks_earlier (class_of_name s y) j lt) (λ j lt. same y j lt))
-
-    asks_last : (y : ℕ) → 0 < asked e 0 (OfLast y) → AsksLastIn e y
-    asks_last y some = by_count (held_count y e) refl
-      where
-        by_count : (n : ℕ) → held_count y e ≡ n → AsksLastIn e y
-        by_count zero none = let total = asked_last y e in inr (omega (arith, some, total, none))
-        by_count (suc n) one = inl (omega (arith, one))
-
-    same_but : SameBut x (asked e) (views_at s A class m) (views_at s B class m)
-    same_but (suc d) q some other = by_moment m refl
-      where
-        by_moment : (n : ℕ) → m ≡ n → SameAt (views_at s A class m) (views_at s B class m) (suc d) q
-        by_moment zero at = absurd (side.early (unclocked_at_first s S class (subst (λ k. class_ticks s S class k ≡ true) at ticks)) d q some)
-        by_moment (suc k) at = back_same k d q at
-    same_but zero (OfNow y) some other = subst (λ k. A y k ≡ B y k) (let h : m ≡ m - 0 = omega arith in h) (other_same y (λ is. other (refl, ap OfNow is)))
-    same_but zero (OfLast y) some other = last_here y (m - 0) (omega arith) (asks_last y some)
-    same_but zero (OfPrevious y) some other =
-        previous_same (name_ticks s A y) (name_ticks s B y) (A y) (B y) (start_of s y) (m - 0) (λ j lt. ticks_earlier (class_of_name s y) j (omega (arith, lt))) (λ j lt. same y j (omega (arith, lt)))
-    same_but zero OfFirst some other = ap is_none (tick_before_same (class_ticks s A class) (class_ticks s B class) (m - 0) (λ j lt. ticks_earlier class j (omega (arith, lt))))
-    same_but zero OfInterval some other = interval_same s (class_ticks s A class) (class_ticks s B class) (m - 0) (clock_of s class) (λ j lt. ticks_earlier class j (omega (arith, lt)))
+  same_side : (e : Expr) → IsSideOnce s i x e → SameBut x (asked e) (views_at s A class m) (views_at s B class m)
+  same_side e side = same_but s A B m same i x (λ at. unclocked_at_first s S class (subst (λ k. class_ticks s S class k ≡ true) at ticks)) e (record {
+    now = λ y other some. other_same y other;
+    ticks = λ y asks. ticks_alike y (side.sites y asks);
+    last = λ y asks t. other_same y (λ is. side.own (subst (AsksLastIn e) is asks));
+    early = side.early;
+  })
 
   -- the side with the name, where the other side has the same value with both
   one_side : (e : Expr) → IsSideOnce s i x e → is_reached x e ≡ true → bare_count x e ≤ 1 → (c : Value) → value_of e (views_at s A class m) ≡ Is c → value_of e (views_at s B class m) ≡ Is c → v ≡ w
   one_side e side reached few c one two =
-      let now = alone x e reached (let same_count = asked_bare x e in omega (arith, few, same_count)) side.formed (views_at s A class m) (views_at s B class m) (same_but e side) c one two in
+      let now = alone x e reached (let same_count = asked_bare x e in omega (arith, few, same_count)) side.formed (views_at s A class m) (views_at s B class m) (same_side e side) c one two in
       let here : A x m ≡ B x m = subst (λ k. A x k ≡ B x k) (let h : m - 0 ≡ m = omega arith in h) now in
       same_value v w (sym (value_now S m x v) ∙ here ∙ value_now S m x w)
 
   unread : (e : Expr) → IsSideOnce s i x e → bare_count x e ≡ 0 → value_of e (views_at s A class m) ≡ value_of e (views_at s B class m)
-  unread e side none = same_without x e _ _ (let same_count = asked_bare x e in omega (arith, none, same_count)) (same_but e side)
+  unread e side none = same_without x e _ _ (let same_count = asked_bare x e in omega (arith, none, same_count)) (same_side e side)
 
   pub one_solution : (left right : Expr) (clause : Option ℕ) → IsSolvableFor x (Valued left right clause) → IsSideOnce s i x left → IsSideOnce s i x right
       → Solves s S m i (Valued left right clause) x v → Solves s S m i (Valued left right clause) x w → v ≡ w

@@ -7,3 +7,4 @@ pub mod Pieces
 pub mod Renamed
 pub mod Groups
 pub mod PieceLaws
+pub mod Sound

@@ -1,8 +1,8 @@
 -- Laws of the order of a moment, of pieces of it, of groups of names, and of renamed expressions.
-use Rattle.std.specs.Prelude.{◌≡◌, ℕ, ◌≤◌, ◌++◌, Bool, List, Option}
+use Rattle.std.specs.Prelude.{◌≡◌, ℕ, ◌≤◌, ◌++◌, Bool, List, Option, Contains}
 use Rattle.flat_model.specs.declared.expression.Expr.{Expr}
 use Rattle.flat_model.specs.Assignment.{Assignment}
-use Rattle.flat_model.specs.Given.{Row}
+use Rattle.flat_model.specs.Given.{Row, with_row}
 use Rattle.flat_model.specs.Meaning.{value_of}
 use Rattle.flat_model.specs.Runnable.{IsRunnable}
 use Rattle.flat_model.specs.Setting.{Setting, class_ticks, views_at}
@@ -13,6 +13,7 @@ use Rattle.moment_theory.specs.Free.{AreFree, AreSameUses, IsOrdered}
 use Rattle.moment_theory.specs.Groups.{AgreeOnUpTo, IsClockWithin, IsWithin}
 use Rattle.moment_theory.specs.Pieces.{AreApart, AreTakenAlone, AreBeside}
 use Rattle.moment_theory.specs.Renamed.{renamed, views_through}
+use Rattle.moment_theory.specs.Sound.{IsSound, IsClear, WaitsForNoOwn, AgreeOnNeeds, DoesAlike}
 use Rattle.moment_theory.specs.Taken.{AreInputs, AreTaken}
 
 -- the pure uses, those of each base partition and the unclocked ones that wait for a clock are, in this order, a free order of all uses
@@ -45,3 +46,15 @@ GroupLaw = (s : Setting) (group : ℕ → Bool) (S T : Assignment) (m : ℕ) →
 -- a renamed expression has the value of the expression, seen through the renaming
 abbrev pub RenamedLaw : Type 0
 RenamedLaw = (place : ℕ → ℕ) (e : Expr) (views : Views) → value_of (renamed place e) views ≡ value_of e (views_through place views)
+
+-- the inputs are a sound row, and uses taken in a free order from a sound row that has none of their values leave a sound row
+abbrev pub SoundLaw : Type 0
+SoundLaw = (s : Setting) (uses : List Use) → IsRunnable s → AreUses s uses → (S : Assignment) (m : ℕ)
+    → ((inputs : Row) → AreInputs s m inputs → IsSound s (with_row S m inputs) m)
+    × ((piece : List Use) (base row : Row) → ((entry : Use) → Contains piece entry → Contains uses entry) → AreFree s piece → IsClear piece base
+    → IsSound s (with_row S m base) m → AreTaken s S m piece base row → IsSound s (with_row S m row) m)
+
+-- a use gives, and fails, over a sound row as over any that agrees on what it needs
+abbrev pub AlikeLaw : Type 0
+AlikeLaw = (s : Setting) (uses : List Use) → IsRunnable s → AreUses s uses → (S : Assignment) (m : ℕ) (entry : Use) → Contains uses entry → WaitsForNoOwn s entry
+    → (a b : Row) → IsSound s (with_row S m a) m → AgreeOnNeeds s entry a b → DoesAlike s uses S m entry a b

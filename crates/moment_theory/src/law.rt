@@ -1,4 +1,6 @@
-ghost use Rattle.moment_theory.specs.PieceLaws.{DivisionLaw, GroupLaw, GroupTickLaw, PartitionsLaw, PiecesLaw, RenamedLaw};
+ghost use Rattle.moment_theory.specs.PieceLaws.{
+    AlikeLaw, DivisionLaw, GroupLaw, GroupTickLaw, PartitionsLaw, PiecesLaw, RenamedLaw, SoundLaw,
+};
 ghost use Rattle.moment_theory.specs.Laws.{GivenLaw, OrderLaw, NextLaw, StopLaw, FaultLaw, MetLaw, OnlyLaw, OneFaultLaw, WholeLaw, OneRunLaw};
 
 /// Uses taken in a free order over the inputs give exactly the given values.
@@ -79,4 +81,14 @@ pub fn group_law()
 /// An expression with other numbers for its names means the same, seen through the renaming.
 pub fn renamed_law()
     ensures { RenamedLaw }
+{}
+
+/// The inputs are a sound row, and uses taken in a free order leave a sound row sound.
+pub fn sound_law()
+    ensures { SoundLaw }
+{}
+
+/// A use gives, and fails, alike over rows that agree on what it needs.
+pub fn alike_law()
+    ensures { AlikeLaw }
 {}
