@@ -21,6 +21,7 @@ pub mod PartsRest
 pub mod Renamed
 pub mod Rows
 pub mod Running
+pub mod Unheld
 pub mod Alike
 pub mod SameUse
 pub mod Pieces

@@ -1,7 +1,10 @@
 -- How the uses of a moment are divided, and in which order the divisions are taken. This project's own.
-use Rattle.std.specs.Prelude.{◌≡◌, ℕ, zero, suc, ◌<◌, ◌==◌, ◌&&◌, Bool, true, false, not, List, [], ◌∷◌, ◌++◌, Option, Some, None, is_none, slice_get, Contains, if◌then◌else◌}
+use Rattle.std.specs.Prelude.{◌≡◌, ℕ, zero, suc, ◌<◌, ◌⊎◌, ◌==◌, ◌&&◌, Bool, true, false, not, List, [], ◌∷◌, ◌++◌, Option, Some, None, is_none, slice_get, Contains, if◌then◌else◌}
 use Rattle.flat_model.specs.declared.equation.Equation.{Equation}
-use Rattle.flat_model.specs.Setting.{Setting, class_of_equation, partition_of}
+use Rattle.flat_model.specs.declared.equation.Equation.TheVariants.{Valued, Clocks}
+use Rattle.flat_model.specs.Occurrences.{bare_count, held_count}
+use Rattle.flat_model.specs.Setting.{Setting, class_of_name, class_of_equation, partition_of}
+use Rattle.flat_model.specs.Tables.{IsInput}
 use Rattle.flat_model.specs.Uses.{Use, Reads, SiteReads}
 use Rattle.moment_theory.specs.Free.{AsksLast, IsReachedBy}
 
@@ -51,3 +54,20 @@ moment_order s pure count uses = uses_where pure uses ++ (joined (parts_from s u
 -- no base partition has a number from here on
 abbrev pub ArePartitionsBelow : Setting → ℕ → Type 0
 ArePartitionsBelow s count = (class k : ℕ) → partition_of s (Some class) ≡ Some k → k < count
+
+-- a name stands bare in an equation, or under `hold`
+abbrev pub StandsBare : Equation → ℕ → Type 0
+StandsBare (Valued left right clause) y = (0 < bare_count y left) ⊎ (0 < bare_count y right)
+StandsBare (Clocks left right clause) y = ⊥
+
+abbrev pub Holds : Equation → ℕ → Type 0
+Holds (Valued left right clause) z = (0 < held_count z left) ⊎ (0 < held_count z right)
+Holds (Clocks left right clause) z = ⊥
+
+-- a set of names that the conditions of sites rest on, and no clock: all are unclocked; what stands bare in an equation beside one of them is of the set, or an input; and no such equation holds a name
+pub record AreUnheld (s : Setting) (group : ℕ → Bool) : Type 0 where
+  pub unclocked : (y : ℕ) → group y ≡ true → class_of_name s y ≡ None
+  pub sites : (class : Option ℕ) (y : ℕ) → SiteReads s class y → (group y ≡ true) ⊎ IsInput s.model.names y
+  pub beside : (i : ℕ) (equation : Equation) (y z : ℕ) → slice_get s.model.equations i ≡ Some equation → group y ≡ true → StandsBare equation y → StandsBare equation z
+      → (group z ≡ true) ⊎ IsInput s.model.names z
+  pub holds : (i : ℕ) (equation : Equation) (y z : ℕ) → slice_get s.model.equations i ≡ Some equation → group y ≡ true → StandsBare equation y → Holds equation z → ⊥

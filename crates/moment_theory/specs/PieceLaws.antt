@@ -8,7 +8,7 @@ use Rattle.flat_model.specs.Runnable.{IsRunnable}
 use Rattle.flat_model.specs.Setting.{Setting, class_ticks, views_at}
 use Rattle.flat_model.specs.Uses.{Use, AreUses}
 use Rattle.flat_model.specs.Views.{Views}
-use Rattle.moment_theory.specs.Division.{ArePure, ArePartitionsBelow, joined, parts_from, moment_order}
+use Rattle.moment_theory.specs.Division.{ArePure, AreUnheld, ArePartitionsBelow, joined, parts_from, moment_order}
 use Rattle.moment_theory.specs.Free.{AreFree, AreSameUses, IsOrdered}
 use Rattle.moment_theory.specs.Groups.{AgreeOnUpTo, IsClockWithin, IsWithin}
 use Rattle.moment_theory.specs.Pieces.{AreApart, AreTakenAlone, AreBeside}
@@ -20,6 +20,10 @@ use Rattle.moment_theory.specs.Taken.{AreInputs, AreTaken}
 abbrev pub DivisionLaw : Type 0
 DivisionLaw = (s : Setting) (uses : List Use) (pure : Use → Bool) (count : ℕ) → IsRunnable s → AreUses s uses → ArePure s uses pure → ArePartitionsBelow s count
     → AreSameUses uses (moment_order s pure count uses) × AreFree s (moment_order s pure count uses)
+
+-- the uses that reach names on which the conditions of sites rest, and no clock, are pure
+abbrev pub UnheldLaw : Type 0
+UnheldLaw = (s : Setting) (uses : List Use) (group : ℕ → Bool) → IsRunnable s → AreUses s uses → AreUnheld s group → ArePure s uses (λ entry. group entry.name)
 
 -- the uses of two base partitions need nothing of each other
 abbrev pub PartitionsLaw : Type 0

@@ -1,5 +1,6 @@
 ghost use Rattle.moment_theory.specs.PieceLaws.{
     AlikeLaw, DivisionLaw, GroupLaw, GroupTickLaw, PartitionsLaw, PiecesLaw, RenamedLaw, SoundLaw,
+    UnheldLaw,
 };
 ghost use Rattle.moment_theory.specs.Laws.{GivenLaw, OrderLaw, NextLaw, StopLaw, FaultLaw, MetLaw, OnlyLaw, OneFaultLaw, WholeLaw, OneRunLaw};
 
@@ -56,6 +57,11 @@ pub fn one_run_law()
 /// The order of a moment is a free order: pure uses, then those of each base partition, then the other unclocked ones.
 pub fn division_law()
     ensures { DivisionLaw }
+{}
+
+/// Uses of names on which the conditions of sites rest, and no clock, may be taken first.
+pub fn unheld_law()
+    ensures { UnheldLaw }
 {}
 
 /// The uses of two base partitions need nothing of each other.
