@@ -1,4 +1,4 @@
--- What a step answers, put together with the definitions of a run: the moment is met, or it is that of the first fault.
+-- Over the row that uses gave, nothing fails where an assignment meets the model.
 use Rattle.std.proofs.Common.{◌≡◌, ◌≢◌, refl, ap, ◌∙◌, sym, subst, ℕ, suc, ◌<◌, ◌≤◌, List, length, All, Contains, Option, Some, None, slice_get, ◌⊎◌, inl, inr, arith}
 use Rattle.std.proofs.Math.Path.{fun_ext}
 use Rattle.std.proofs.lemmas.Option.{same_Some}
@@ -18,6 +18,7 @@ use Rattle.flat_model.specs.Uses.{Use, AreUses}
 use Rattle.flat_model.specs.Given.{Row, with_row, CanUse, IsOnlySolution, IsGiven}
 use Rattle.flat_model.specs.Faults.{SiteFails, EquationFails, SomethingFails, IsFirstToFail, IsFirstFault}
 use Rattle.flat_model.proofs.Agreement.{SameBefore}
+use Rattle.flat_model.proofs.OneAnswer.{given_once}
 use Rattle.moment_theory.proofs.Ordered.{AreFreeUses}
 use Rattle.moment_theory.specs.Taken.{AreTaken, AreInputs}
 use Rattle.moment_theory.proofs.Members.{IsMember, contains_member, member_contains}
@@ -44,15 +45,6 @@ to_all all uses same entry h = same.within entry (contains_member entry uses h)
 pub from_all : (all uses : List Use) → AreSameMembers all uses → (entry : Use) → Contains all entry → Contains uses entry
 from_all all uses same entry h = member_contains entry uses (same.whole entry h)
 
--- two rows of given values are one
-pub given_once : (s : Setting) (S : Assignment) (uses : List Use) (m : ℕ) (a b : Row) → IsGiven s S uses m a → IsGiven s S uses m b → a ≡ b
-given_once s S uses m a b one two = fun_ext (λ x. same (a x) (b x) (λ v h. one.least b two.closed x v h) (λ v h. two.least a one.closed x v h))
-  where
-    same : (o p : Option Value) → ((v : Value) → o ≡ Some v → p ≡ Some v) → ((v : Value) → p ≡ Some v → o ≡ Some v) → o ≡ p
-    same None None up down = refl
-    same None (Some v) up down = down v refl
-    same (Some v) p up down = sym (up v refl)
-
 -- at an earlier moment the row was taken, and it is that of an assignment that met the model there
 pub record WasTaken (s : Setting) (uses : List Use) (S : Assignment) (k : ℕ) : Type 0 where
   pub row : Row
@@ -72,34 +64,3 @@ module _ (s : Setting) (all uses : List Use) (model : IsReady s uses) (same : Ar
       moved : {A : Assignment} → SomethingFails s A all k → SomethingFails s A uses k
       moved (inl site) = inl site
       moved {A} (inr (i, kind, f)) = inr (i, kind, moved_use s A all uses k i kind (from_all all uses same) f)
-
-  -- the first fault, where an equation fails at m, none before it in flat order does, and no site does
-  pub first_fault : AreUses s all → (m : ℕ) (row last : Row) → AreInputs s m row → AreTaken s S m uses row last → MeetsBefore s S m → ((k : ℕ) → k < m → WasTaken s uses S k)
-      → (i : ℕ) (kind : Fail) → EquationFails s (with_row S m last) uses m i kind → ((j : ℕ) (k : Fail) → SiteFails s (with_row S m last) m j k → ⊥)
-      → ((j : ℕ) (k : Fail) → j < i → EquationFails s (with_row S m last) uses m j k → ⊥) → IsFirstFault s S m (place.Equation i) kind
-  first_fault uses_are m row last are taken meets was i kind fails sites none = record {
-    meets = meets;
-    uses = all;
-    uses_are = uses_are;
-    row = last;
-    given = taken_given s model.unclocked model.inputs S m uses model.order row are all last same taken;
-    first = (
-      moved_use s (with_row S m last) uses all m i kind (to_all all uses same) fails,
-      sites,
-      λ j k lt f. none j k lt (moved_use s (with_row S m last) all uses m j k (from_all all uses same) f),
-    );
-    none_before = λ k earlier lt given f. quiet k earlier (was k lt) (meets k lt) given f;
-  }
-
-  -- or where the condition of a site does
-  pub first_site : AreUses s all → (m : ℕ) (row last : Row) → AreInputs s m row → AreTaken s S m uses row last → MeetsBefore s S m → ((k : ℕ) → k < m → WasTaken s uses S k)
-      → (site : ℕ) (kind : Fail) → SiteFails s (with_row S m last) m site kind → ((j : ℕ) (k : Fail) → j < site → SiteFails s (with_row S m last) m j k → ⊥) → IsFirstFault s S m (place.Site site) kind
-  first_site uses_are m row last are taken meets was site kind fails none = record {
-    meets = meets;
-    uses = all;
-    uses_are = uses_are;
-    row = last;
-    given = taken_given s model.unclocked model.inputs S m uses model.order row are all last same taken;
-    first = (fails, none);
-    none_before = λ k earlier lt given f. quiet k earlier (was k lt) (meets k lt) given f;
-  }

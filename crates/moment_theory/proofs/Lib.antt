@@ -1,6 +1,5 @@
 pub mod Apart
 pub mod Beside
-pub mod FromOrder
 pub mod FromUses
 pub mod Facts
 pub mod Members
@@ -31,9 +30,8 @@ pub mod Settled
 pub mod Once
 pub mod Moved
 pub mod Composed
-pub mod Windowed
+pub mod Ran
 pub mod MetTaken
-pub mod TakenBeside
 pub mod Ready
 pub mod Taking
 pub mod Transfer

@@ -34,7 +34,7 @@ use Rattle.moment_theory.proofs.Meeting.{IsValued, IsSideClassed, AreClassed, Ar
 use Rattle.moment_theory.proofs.NoSolution.{value_at, free_of}
 use Rattle.moment_theory.proofs.Apart.{gives_same}
 use Rattle.moment_theory.proofs.Running.{IsReady}
-use Rattle.moment_theory.proofs.Windowed.{with_own_row, IsTakenAt, RanAt, run_all}
+use Rattle.moment_theory.proofs.Ran.{with_own_row, IsTakenAt, RanAt, run_all}
 
 -- no use has two solutions at a moment at which it counts
 abbrev pub AreSolvedOnce : Setting → List Use → Type 0

@@ -1,4 +1,4 @@
--- A model has one list of uses, and each equation one use in it.
+-- Each equation has one use.
 use Rattle.std.proofs.Common.{◌≡◌, refl, ap, ap₂, ◌∙◌, sym, subst, ℕ, zero, suc, ◌<◌, ◌≤◌, List, [], ◌∷◌, ◌++◌, map, Contains, Option, Some, arith, ◌⊎◌, inl, inr}
 use Rattle.std.proofs.lemmas.Bool.{cases_lt, cases_eq}
 use Rattle.std.proofs.lemmas.List.Elements.{Contains-append_left, Contains-append_right}
@@ -7,39 +7,6 @@ use Rattle.flat_model.specs.declared.equation.Equation.{Equation}
 use Rattle.flat_model.specs.Setting.{Setting}
 use Rattle.flat_model.specs.Uses.{Use, EquationReads, CanReach, IsNextUse, AreUsesAfter, AreUses, used_equations}
 use Rattle.moment_theory.proofs.Members.{IsMember, contains_member}
-
-one_equation : (s : Setting) (done : List Use) (a b : Use) → IsNextUse s done a → IsNextUse s done b → a.equation ≡ b.equation
-one_equation s done a b first second = elim (cases_lt a.equation b.equation) [
-  | inl lt ↦ absurd (second.first a.equation a.name lt first.reaches)
-  | inr ge ↦ elim (cases_lt b.equation a.equation) [
-    | inl lt ↦ absurd (first.first b.equation b.name lt second.reaches)
-    | inr le ↦ omega (arith, ge, le)
-  ]
-]
-
-one_name : (s : Setting) (done : List Use) (i x y : ℕ) → CanReach s done i x → CanReach s done i y → x ≡ y
-one_name s done i x y one two =
-    let same = same_Some one.equation two.equation (sym one.found ∙ two.found) in
-    two.only x (subst (λ q. EquationReads s i q x) same one.reads) one.unreached
-
-one_next : (s : Setting) (done : List Use) (a b : Use) → IsNextUse s done a → IsNextUse s done b → a ≡ b
-one_next s done a b first second =
-    let equations = one_equation s done a b first second in
-    let names = one_name s done b.equation a.name b.name (subst (λ i. CanReach s done i a.name) equations first.reaches) second.reaches in
-    λ j. record { equation = equations j; name = names j }
-
-one_list_after : (s : Setting) (done first second : List Use) → AreUsesAfter s done first → AreUsesAfter s done second → first ≡ second
-one_list_after s done [] [] one two = refl
-one_list_after s done [] (b ∷ second) one two = absurd (one b.equation b.name two.0.reaches)
-one_list_after s done (a ∷ first) [] one two = absurd (two a.equation a.name one.0.reaches)
-one_list_after s done (a ∷ first) (b ∷ second) one two =
-    let heads = one_next s done a b one.0 two.0 in
-    let tails = one_list_after s (done ++ b ∷ []) first second (subst (λ z. AreUsesAfter s (done ++ z ∷ []) first) heads one.1) two.1 in
-    ap₂ (λ head tail. head ∷ tail) heads tails
-
--- two lists of the uses of a model are one
-pub one_list : (s : Setting) (first second : List Use) → AreUses s first → AreUses s second → first ≡ second
-one_list s first second one two = one_list_after s [] first second one two
 
 used_append : (xs ys : List Use) → used_equations (xs ++ ys) ≡ used_equations xs ++ used_equations ys
 used_append [] ys = refl

@@ -22,10 +22,11 @@ use Rattle.flat_model.specs.Moments.{moment_at}
 use Rattle.flat_model.specs.Setting.{Setting, class_of_equation, views_at}
 use Rattle.flat_model.specs.Uses.{Use}
 use Rattle.flat_model.proofs.Agreement.{SameUpTo}
+use Rattle.flat_model.proofs.OneAnswer.{uses_once, given_once}
 use Rattle.moment_theory.specs.Free.{AreFree, AreSameUses, IsOrdered}
 use Rattle.moment_theory.specs.Going.{AgreeBefore, IsOnlyBefore, HasRun, SitesHold, AllSolved}
 use Rattle.moment_theory.specs.Taken.{AreInputs, AreTaken}
-use Rattle.moment_theory.proofs.Composed.{moved_use, given_once}
+use Rattle.moment_theory.proofs.Composed.{moved_use}
 use Rattle.moment_theory.proofs.Facts.{same_members}
 use Rattle.moment_theory.proofs.FromRunnable.{facts_of}
 use Rattle.moment_theory.proofs.GivenByOrder.{AreSameMembers, taken_given}
@@ -33,7 +34,7 @@ use Rattle.moment_theory.proofs.Meeting.{HasTableValues}
 use Rattle.moment_theory.proofs.Members.{IsMember, member_contains}
 use Rattle.moment_theory.proofs.MetTaken.{AreSolvedOnce, met_run}
 use Rattle.moment_theory.proofs.Moved.{rows_up_to, first_moved, fails_moved, given_moved}
-use Rattle.moment_theory.proofs.Once.{one_list, one_use}
+use Rattle.moment_theory.proofs.Once.{one_use}
 use Rattle.moment_theory.proofs.Ready.{ready, solved_once}
 use Rattle.moment_theory.proofs.Running.{IsReady, next_row, no_row}
 
@@ -105,7 +106,7 @@ module _ (s : Setting) (uses order : List Use) (is : IsOrdered s uses order) whe
 
   fault_of : (S : Assignment) (m : ℕ) (at : FaultPlace) (kind : Fail) → IsFirstFault s S m at kind → FaultOf S m at kind
   fault_of S m at kind fault =
-      let same : fault.uses ≡ uses = one_list s fault.uses uses fault.uses_are is.uses_are.uses_are in record {
+      let same : fault.uses ≡ uses = uses_once s fault.uses uses fault.uses_are is.uses_are.uses_are in record {
         row = fault.row;
         given = subst (λ us. IsGiven s S us m fault.row) same fault.given;
         first = subst (λ us. IsFirstToFail s (with_row S m fault.row) us m at kind) same fault.first;

@@ -16,8 +16,8 @@ use Rattle.moment_theory.specs.Going.{AgreeBefore, IsOnlyBefore, HasRun, SitesHo
 use Rattle.moment_theory.specs.Taken.{AreInputs, AreTaken}
 
 -- uses taken in a free order over the inputs give exactly the given values
-abbrev pub GivenLaw : Type 0
-GivenLaw = (s : Setting) (uses order : List Use) → IsOrdered s uses order → (S : Assignment) (m : ℕ) (inputs last : Row) → AreInputs s m inputs
+abbrev pub TakenLaw : Type 0
+TakenLaw = (s : Setting) (uses order : List Use) → IsOrdered s uses order → (S : Assignment) (m : ℕ) (inputs last : Row) → AreInputs s m inputs
     → AreTaken s S m order inputs last → IsGiven s S uses m last
 
 -- whatever free order is taken

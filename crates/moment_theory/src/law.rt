@@ -2,11 +2,11 @@ ghost use Rattle.moment_theory.specs.PieceLaws.{
     AlikeLaw, DivisionLaw, GroupLaw, GroupTickLaw, PartitionsLaw, PiecesLaw, RenamedLaw, SoundLaw,
     UnheldLaw,
 };
-ghost use Rattle.moment_theory.specs.Laws.{GivenLaw, OrderLaw, NextLaw, StopLaw, FaultLaw, MetLaw, OnlyLaw, OneFaultLaw, WholeLaw, OneRunLaw};
+ghost use Rattle.moment_theory.specs.Laws.{TakenLaw, OrderLaw, NextLaw, StopLaw, FaultLaw, MetLaw, OnlyLaw, OneFaultLaw, WholeLaw, OneRunLaw};
 
 /// Uses taken in a free order over the inputs give exactly the given values.
-pub fn given_law()
-    ensures { GivenLaw }
+pub fn taken_law()
+    ensures { TakenLaw }
 {}
 
 /// Whatever free order is taken, the values are the same.

@@ -1,4 +1,4 @@
--- A window of moments that were run: the rows meet the model up to the first failure, alone, and the failure is the first fault.
+-- Moments that were run go on, one after the other.
 use Rattle.std.proofs.Common.{◌≡◌, ◌≢◌, refl, ap, ap₂, ◌∙◌, sym, subst, ℕ, zero, suc, ◌+◌, ◌-◌, ◌<◌, ◌≤◌, ◌==◌, nat_le, if◌then◌else◌, Bool, true, false, List, Contains, Option, Some, None, slice_get, ◌⊎◌, inl, inr, arith}
 use Rattle.std.proofs.Math.Path.{fun_ext}
 use Rattle.std.proofs.lemmas.Bool.{cases_lt}
@@ -29,25 +29,6 @@ use Rattle.moment_theory.proofs.Meeting.{HasTableValues}
 use Rattle.moment_theory.proofs.NoSolution.{nothing_fails}
 use Rattle.moment_theory.proofs.Running.{IsReady, next_row, valued_names}
 use Rattle.moment_theory.proofs.Composed.{WasTaken, quiet, moved_use, to_all, from_all}
-
-pub agree_trans : (R S T : Assignment) (m n : ℕ) → m ≤ n → AgreeBefore R S m → AgreeBefore S T n → AgreeBefore R T m
-agree_trans R S T m n le one two x k lt = one x k lt ∙ two x k (omega (arith, lt, le))
-
--- from n on the rows, before it A
-abbrev pub windowed : Assignment → ℕ → (ℕ → Row) → Assignment
-windowed A n rows x k = if nat_le n k then rows (k - n) x else A x k
-
-pub windowed_before : (A : Assignment) (n : ℕ) (rows : ℕ → Row) → AgreeBefore A (windowed A n rows) n
-windowed_before A n rows x k lt = elim (leb_tells n k) [
-  | inl (e, h) ↦ absurd (omega (arith, h, lt))
-  | inr (e, h) ↦ rw e refl
-]
-
-pub windowed_row : (A : Assignment) (n : ℕ) (rows : ℕ → Row) (x j : ℕ) → windowed A n rows x (n + j) ≡ rows j x
-windowed_row A n rows x j = elim (leb_tells n (n + j)) [
-  | inl (e, h) ↦ rw e (ap (λ k. rows k x) (let same : n + j - n ≡ j = omega arith in same))
-  | inr (e, h) ↦ absurd (omega (arith, h))
-]
 
 -- an assignment with its own row is itself
 pub with_own_row : (U : Assignment) (m : ℕ) → with_row U m (λ x. U x m) ≡ U
@@ -106,51 +87,9 @@ module _ (s : Setting) (all uses : List Use) (model : IsReady s uses) (are_uses 
               (meets_same s U T m (λ x j le. agree x j (omega (arith, le))) (now.meets m (omega arith)))
               (subst (λ n. IsGiven s T all n row) e given) (subst (λ n. SomethingFails s (with_row T n row) all n) e fails)
 
-  -- what was run for A before n was run for what agrees with it
-  pub run_moved : (A : Assignment) (n : ℕ) → AgreeBefore A U n → HasRun s all A n → HasRun s all U n
-  run_moved A n agree known = record {
-    meets = λ k lt. meets_same s A U k (λ x j le. agree x j (omega (arith, le, lt))) (known.meets k lt);
-    only = λ k le T meets x j lt. sym (agree x j (omega (arith, lt, le))) ∙ known.only k le T meets x j lt;
-    quiet = λ k row T lt same_T. known.quiet k row T lt (agree_trans A U T n n (omega arith) agree same_T);
-  }
-
   -- moments one after the other
   pub run_all : (n count : ℕ) → HasRun s all U n → ((j : ℕ) → j < count → RanAt (n + j)) → HasRun s all U (n + count)
   run_all n zero known ran = subst (HasRun s all U) (let e : n ≡ n + 0 = omega arith in e) known
   run_all n (suc count) known ran =
       let earlier = run_all n count known (λ j lt. ran j (omega (arith, lt))) in
       subst (HasRun s all U) (let e : suc (n + count) ≡ n + suc count = omega arith in e) (run_next (n + count) earlier (ran count (omega arith)))
-
-  -- a failure at m over what was taken there
-  pub FailsFirst : ℕ → FaultPlace → Fail → Type 0
-  FailsFirst m at kind = IsFirstToFail s U uses m at kind
-
-  abbrev moved_first : (m : ℕ) (at : FaultPlace) (kind : Fail) → IsFirstToFail s U uses m at kind → IsFirstToFail s U all m at kind
-  moved_first m (place.Site site) kind first = first
-  moved_first m (place.Equation i) kind (fails, sites, none) = (
-    moved_use s U uses all m i kind (to_all all uses same) fails,
-    sites,
-    λ j k lt f. none j k lt (moved_use s U all uses m j k (from_all all uses same) f),
-  )
-
-  some_fails : (m : ℕ) (at : FaultPlace) (kind : Fail) → IsFirstToFail s U uses m at kind → SomethingFails s U uses m
-  some_fails m (place.Site site) kind first = inl (site, kind, first.0)
-  some_fails m (place.Equation i) kind first = inr (i, kind, first.0)
-
-  -- is the first fault, and nothing meets the model up to it
-  pub first_at : (m : ℕ) → HasRun s all U m → IsTakenAt m → (at : FaultPlace) (kind : Fail) → IsFirstToFail s U uses m at kind → IsFirstFault s U m at kind
-  first_at m known row at kind first = record {
-    meets = known.meets;
-    uses = all;
-    uses_are = are_uses;
-    row = λ x. U x m;
-    given = taken_given s model.unclocked model.inputs U m uses model.order row.base row.are all (λ x. U x m) same (own_taken m row);
-    first = subst (λ A. IsFirstToFail s A all m at kind) (sym (with_own_row U m)) (moved_first m at kind first);
-    none_before = λ k earlier lt. known.quiet k earlier U lt (λ x j h. refl);
-  }
-
-  pub none_meets : (m : ℕ) → HasRun s all U m → IsTakenAt m → (at : FaultPlace) (kind : Fail) → IsFirstToFail s U uses m at kind → (T : Assignment) → Meets s T m → ⊥
-  none_meets m known row at kind first T there =
-      nothing_fails s model.unclocked model.inputs U m uses model.order (valued_names s uses model.whole) row.base row.are (λ x. U x m) (own_taken m row) T
-      (known.only m (omega arith) T (λ k lt. there k (omega (arith, lt)))) (there m (omega arith))
-      (subst (λ A. SomethingFails s A uses m) (sym (with_own_row U m)) (some_fails m at kind first))
