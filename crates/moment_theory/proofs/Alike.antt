@@ -1,9 +1,9 @@
 -- Two assignments that are the same before a moment, and there on what an expression reads beside one name, show it the same but for that name.
-use Rattle.std.proofs.Common.{◌≡◌, ◌≢◌, refl, ap, ◌∙◌, sym, subst, ℕ, zero, suc, ◌+◌, ◌-◌, ◌<◌, ◌≤◌, true, Option, Some, None, is_none, arith, ◌⊎◌, inl, inr}
+use Rattle.std.proofs.Common.{◌≡◌, ◌≢◌, refl, ap, sym, subst, ℕ, zero, suc, ◌-◌, ◌<◌, true, Option, None, is_none, arith, inl, inr}
 use Rattle.flat_model.specs.declared.expression.Expr.{Expr}
 use Rattle.flat_model.specs.Asks.{Asking, OfNow, OfLast, OfPrevious, OfFirst, OfInterval, asked}
 use Rattle.flat_model.specs.Assignment.{Assignment}
-use Rattle.flat_model.specs.Occurrences.{bare_count, held_count, converted_count}
+use Rattle.flat_model.specs.Occurrences.{bare_count, held_count}
 use Rattle.flat_model.specs.Setting.{Setting, class_of_name, class_of_equation, clock_of, start_of, class_ticks, name_ticks, view_at, views_at}
 use Rattle.flat_model.specs.Views.{View, Views}
 use Rattle.flat_model.proofs.Agreement.{SameBefore, class_ticks_same, tick_before_same, previous_same, last_same, view_same}

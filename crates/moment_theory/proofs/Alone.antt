@@ -1,5 +1,5 @@
 -- A name that is reached through sums, differences, minus and `not` has one value alone with which an expression has a result.
-use Rattle.std.proofs.Common.{◌≡◌, refl, ap, ap₂, ◌∙◌, sym, subst, ℕ, suc, ◌+◌, ◌<◌, ◌≤◌, ◌==◌, ◌&&◌, ◌||◌, Bool, true, false, List, [], ◌∷◌, map, length, Option, Some, None, arith}
+use Rattle.std.proofs.Common.{◌≡◌, refl, ap, ap₂, ◌∙◌, sym, subst, ℕ, suc, ◌<◌, ◌≤◌, ◌==◌, ◌&&◌, ◌||◌, Bool, true, false, List, [], ◌∷◌, map, length, Option, Some, None, arith}
 use Rattle.std.proofs.lemmas.List.{length-map}
 use Rattle.std.specs.List.{list_any, list_all}
 use Rattle.std.proofs.lemmas.Bool.{false≢true, and_parts, eqb-true}
@@ -10,13 +10,13 @@ use Rattle.flat_model.specs.declared.clock.ClockExpr.{ClockExpr}
 use Rattle.flat_model.specs.declared.clock.ClockExpr.TheOpen.{Expr-F}
 use Rattle.flat_model.specs.declared.clock.ClockExpr.TheViews.{roll-Expr}
 use Rattle.flat_model.specs.declared.clock.ClockExpr.TheFolds.{fold-Expr, ind-Expr, fold-roll-Expr, map-Expr}
-use Rattle.flat_model.specs.Occurrences.{is_sum, reached_in_level, is_reached, bare_count}
+use Rattle.flat_model.specs.Occurrences.{is_sum, reached_in_level, is_reached}
 use Rattle.flat_model.specs.Operators.{Answer, Is, read, joined, chained, chain}
 use Rattle.flat_model.specs.Views.{Views}
 use Rattle.flat_model.specs.Meaning.{Meaning, meaning_of_level, seen_by, value_of}
 use Rattle.flat_model.proofs.Above.{value_of_roll}
-use Rattle.flat_model.specs.Asks.{Asking, OfNow, Asked, asked, asked_in_level, all_asked}
-use Rattle.flat_model.proofs.Asks.{asked_roll, SameAt}
+use Rattle.flat_model.specs.Asks.{OfNow, Asked, asked, asked_in_level, all_asked}
+use Rattle.flat_model.proofs.Asks.{asked_roll}
 use Rattle.flat_model.proofs.Links.{asked_bare}
 use Rattle.moment_theory.proofs.PartsRest.{SameBut, same_without}
 use Rattle.moment_theory.proofs.Stands.{stands_bare}

@@ -1,5 +1,5 @@
 -- What a run puts on out and err is one.
-use Rattle.std.proofs.Common.{◌≡◌, refl, ap, ap₂, ◌∙◌, sym, subst, ℕ, zero, suc, ◌+◌, ◌-◌, ◌<◌, ◌≤◌, List, [], ◌∷◌, ◌++◌, map, length, take, Option, Some, None, ◌⊎◌, inl, inr, arith}
+use Rattle.std.proofs.Common.{◌≡◌, refl, ap, ap₂, ◌∙◌, sym, subst, ℕ, zero, suc, ◌+◌, ◌-◌, ◌≤◌, List, [], ◌∷◌, ◌++◌, map, length, take, Option, Some, ◌⊎◌, inl, inr, arith}
 use Rattle.std.proofs.Math.Path.{fun_ext}
 use Rattle.std.proofs.lemmas.List.{length-take-le}
 use Rattle.std.proofs.lemmas.Option.{same_Some, none-some}
@@ -45,8 +45,7 @@ module _ (s : Setting) (uses order : List Use) (is : IsOrdered s uses order) (ou
       let (moments, places, kinds) = one_fault s uses order is one.assignment two.assignment one.moment two.moment low high one.place two.place one.kind two.kind one.fault two.fault in
       let known = met_has_run s uses order is one.assignment one.moment (omega (arith, low)) one.fault.meets in
       let agree : AgreeBefore one.assignment two.assignment one.moment = known.only one.moment (omega arith) two.assignment (λ k lt. two.fault.meets k (omega (arith, lt, moments))) in
-      let instants : one.at ≡ two.at = same_Some one.at two.at (sym one.found ∙ ap (moment_at s.instants) moments ∙ two.found) in
-      (
+      let instants : one.at ≡ two.at = same_Some one.at two.at (sym one.found ∙ ap (moment_at s.instants) moments ∙ two.found) in (
         one.out_is ∙ rows agree (by_moment one.moment refl) ∙ ap (λ n. trace_text s.model.names two.assignment (take (n - 1) s.instants)) moments ∙ sym two.out_is,
         one.err_is ∙ ap₂ (λ at place. fault_line at place one.kind) instants places ∙ ap (fault_line two.at two.place) kinds ∙ sym two.err_is,
       )

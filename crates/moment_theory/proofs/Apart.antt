@@ -1,5 +1,5 @@
 -- Uses of parts that need nothing of each other give the same whether they are taken side by side or one after the other.
-use Rattle.std.proofs.Common.{◌≡◌, ◌≢◌, refl, ap, ◌∙◌, sym, subst, ℕ, List, [], ◌∷◌, ◌++◌, Option, Some, None, IsSome, ◌⊎◌, inl, inr}
+use Rattle.std.proofs.Common.{◌≡◌, refl, ◌∙◌, sym, subst, ℕ, List, [], ◌∷◌, ◌++◌, inl, inr}
 use Rattle.std.proofs.Math.Path.{fun_ext}
 use Rattle.std.proofs.lemmas.Bool.{cases_eq}
 use Rattle.sync_values.specs.declared.value.Value.{Value}
@@ -14,8 +14,7 @@ use Rattle.moment_theory.specs.Taken.{put, Gives, IsTaken, AreTaken}
 use Rattle.flat_model.proofs.Above.{IsBelow}
 use Rattle.moment_theory.proofs.Rows.{below_same}
 use Rattle.moment_theory.proofs.Transfer.{IsSound, Needs, can_up, only_up}
-use Rattle.moment_theory.proofs.Taking.{IsClear, over, same_over, below_over, put_same, put_other, step_other, step_clear, step_sound, unchanged, taken_sound}
-use Rattle.moment_theory.proofs.Members.{IsMember}
+use Rattle.moment_theory.proofs.Taking.{IsClear, over, same_over, below_over, put_same, put_other, step_clear, step_sound, unchanged, taken_sound}
 
 -- a set of names that holds the names of these uses and what they need
 abbrev pub HoldsNeeds : (s : Setting) → (ℕ → Type 0) → (uses : List Use) → AreFreeUses s uses → Type 0

@@ -1,5 +1,5 @@
 -- Any number of pieces, each taken by itself from one base, are taken one behind the other.
-use Rattle.std.proofs.Common.{◌≡◌, refl, ap, ◌∙◌, sym, subst, ℕ, zero, suc, List, [], ◌∷◌, ◌++◌, ◌⊎◌, inl, inr}
+use Rattle.std.proofs.Common.{◌≡◌, refl, ap, ◌∙◌, sym, subst, ℕ, suc, List, [], ◌∷◌, ◌++◌, ◌⊎◌, inl, inr}
 use Rattle.flat_model.specs.Assignment.{Assignment}
 use Rattle.flat_model.specs.Setting.{Setting}
 use Rattle.flat_model.specs.Uses.{Use}
@@ -11,7 +11,7 @@ use Rattle.moment_theory.proofs.Ordered.{AreFreeUses}
 use Rattle.moment_theory.specs.Taken.{AreTaken}
 use Rattle.moment_theory.proofs.Transfer.{IsSound}
 use Rattle.moment_theory.proofs.Taking.{IsClear, over}
-use Rattle.moment_theory.proofs.Apart.{HoldsNeeds, IsBeside, beside}
+use Rattle.moment_theory.proofs.Apart.{HoldsNeeds, beside}
 
 pub reached_either : (a b : List Use) (y : ℕ) → IsReachedBy y (a ++ b) → IsReachedBy y a ⊎ IsReachedBy y b
 reached_either [] b y h = inr h

@@ -1,8 +1,8 @@
 -- A table of a model has a value of its type for each input at each moment.
-use Rattle.std.proofs.Common.{◌≡◌, ◌≢◌, refl, ap, ◌∙◌, sym, subst, ℕ, zero, suc, ◌+◌, ◌-◌, ◌*◌, ◌<◌, ◌≤◌, ◌==◌, nat_lt, Bool, true, false, not, if◌then◌else◌, List, [], ◌∷◌, length, get_or, Contains, Option, Some, None, slice_get, count_by, position, arith}
+use Rattle.std.proofs.Common.{◌≡◌, refl, ap, ◌∙◌, sym, ℕ, zero, suc, ◌+◌, ◌*◌, ◌<◌, ◌≤◌, ◌==◌, Bool, true, false, not, if◌then◌else◌, List, [], ◌∷◌, length, get_or, Contains, Option, Some, None, slice_get, position, arith}
 use Rattle.std.proofs.lemmas.List.Sums.{count_by-le-length}
 use Rattle.std.proofs.lemmas.List.Quantifiers.{position-Some}
-use Rattle.std.proofs.lemmas.Bool.{cases_eq, eqb-true, eq-eqb, lt-ltb}
+use Rattle.std.proofs.lemmas.Bool.{eqb-true, eq-eqb, lt-ltb}
 use Rattle.std.proofs.lemmas.Option.{slice_get-get_or, slice_get_within, none-some}
 use Rattle.std.proofs.Math.Nat.{mul-le-mul_right}
 use Rattle.std.specs.List.{position_or_len, prefix_len}
@@ -17,7 +17,7 @@ use Rattle.flat_model.specs.declared.model.FlatName.{FlatName}
 use Rattle.flat_model.specs.declared.table.Table.{Table}
 use Rattle.flat_model.specs.Assignment.{IsOfKind}
 use Rattle.flat_model.specs.Moments.{row_of, cell_of, table_value}
-use Rattle.flat_model.specs.Tables.{AreTimes, AreColumns, AreCells, IsTableOf, StartAtZero}
+use Rattle.flat_model.specs.Tables.{IsTableOf, StartAtZero}
 
 -- the first place of a number is not behind any of its places
 first_place : (xs : List ℕ) (x k : ℕ) → k < length xs → get_or xs k x ≡ x → prefix_len (λ column. not (column == x)) xs ≤ k

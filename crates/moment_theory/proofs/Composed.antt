@@ -1,27 +1,15 @@
 -- Over the row that uses gave, nothing fails where an assignment meets the model.
-use Rattle.std.proofs.Common.{◌≡◌, ◌≢◌, refl, ap, ◌∙◌, sym, subst, ℕ, suc, ◌<◌, ◌≤◌, List, length, All, Contains, Option, Some, None, slice_get, ◌⊎◌, inl, inr, arith}
-use Rattle.std.proofs.Math.Path.{fun_ext}
-use Rattle.std.proofs.lemmas.Option.{same_Some}
-use Rattle.sync_values.specs.declared.value.Value.{Value}
+use Rattle.std.proofs.Common.{◌≡◌, refl, subst, ℕ, List, Contains, inl, inr}
 use Rattle.sync_values.specs.declared.value.Fail.{Fail}
-use Rattle.flat_model.specs.declared.equation.Equation.{Equation}
-use Rattle.flat_model.specs.declared.expression.Expr.{Expr}
-use Rattle.flat_model.specs.declared.model.FlatName.{FlatName}
-use Rattle.flat_model.specs.declared.fault.FaultPlace.{FaultPlace}
-use Rattle.flat_model.specs.declared.fault.FaultPlace.TheVariants as place
-use Rattle.flat_model.specs.Operators.{Answer, Is, Fails, Absent}
-use Rattle.flat_model.specs.Meaning.{value_of}
 use Rattle.flat_model.specs.Assignment.{Assignment}
 use Rattle.flat_model.specs.Setting.{Setting}
-use Rattle.flat_model.specs.Meets.{MeetsAt, MeetsBefore}
-use Rattle.flat_model.specs.Uses.{Use, AreUses}
-use Rattle.flat_model.specs.Given.{Row, with_row, CanUse, IsOnlySolution, IsGiven}
-use Rattle.flat_model.specs.Faults.{SiteFails, EquationFails, SomethingFails, IsFirstToFail, IsFirstFault}
-use Rattle.flat_model.proofs.Agreement.{SameBefore}
+use Rattle.flat_model.specs.Meets.{MeetsAt}
+use Rattle.flat_model.specs.Uses.{Use}
+use Rattle.flat_model.specs.Given.{Row, with_row, IsGiven}
+use Rattle.flat_model.specs.Faults.{EquationFails, SomethingFails}
 use Rattle.flat_model.proofs.OneAnswer.{given_once}
-use Rattle.moment_theory.proofs.Ordered.{AreFreeUses}
 use Rattle.moment_theory.specs.Taken.{AreTaken, AreInputs}
-use Rattle.moment_theory.proofs.Members.{IsMember, contains_member, member_contains}
+use Rattle.moment_theory.proofs.Members.{contains_member, member_contains}
 use Rattle.moment_theory.proofs.GivenByOrder.{AreSameMembers, taken_given}
 use Rattle.moment_theory.proofs.NoSolution.{nothing_fails}
 use Rattle.moment_theory.proofs.Running.{IsReady, valued_names}

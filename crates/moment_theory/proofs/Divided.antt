@@ -1,16 +1,16 @@
 -- The order of a moment, divided into pure uses, base partitions and the rest, is a free order.
-use Rattle.std.proofs.Common.{◌≡◌, ◌≢◌, refl, ap, ◌∙◌, sym, subst, ℕ, zero, suc, ◌+◌, ◌<◌, ◌≤◌, ◌==◌, ◌&&◌, not, Bool, true, false, List, [], ◌∷◌, ◌++◌, length, Contains, Option, Some, None, is_none, slice_get, if◌then◌else◌, ◌⊎◌, inl, inr, arith}
+use Rattle.std.proofs.Common.{◌≡◌, ◌≢◌, refl, ap, ◌∙◌, sym, subst, ℕ, zero, suc, ◌+◌, ◌<◌, ◌≤◌, ◌==◌, not, Bool, true, false, List, [], ◌∷◌, ◌++◌, length, Option, Some, None, is_none, slice_get, if◌then◌else◌, ◌⊎◌, inl, inr, arith}
 use Rattle.std.proofs.lemmas.Bool.{false≢true, and_parts, and_from, eqb-true, eq-eqb}
-use Rattle.std.proofs.lemmas.Option.{none-some, same_Some, slice_get_within}
+use Rattle.std.proofs.lemmas.Option.{none-some, same_Some}
 use Rattle.flat_model.specs.declared.clock.Clock.TheVariants.{Event}
 use Rattle.flat_model.specs.declared.equation.Equation.{Equation}
 use Rattle.flat_model.specs.declared.equation.Equation.TheVariants.{Valued}
 use Rattle.flat_model.specs.declared.expression.Expr.{Expr}
 use Rattle.flat_model.specs.Runnable.{IsClassBelow, IsSideClocked, IsRunnable}
-use Rattle.flat_model.specs.Setting.{Setting, flattened, class_of_name, class_of_equation, clock_of, partition_of}
-use Rattle.flat_model.specs.Uses.{Use, ReadsIn, EquationReads, Reads, AreUses, SiteReads}
+use Rattle.flat_model.specs.Setting.{Setting, flattened, class_of_name, class_of_equation, partition_of}
+use Rattle.flat_model.specs.Uses.{Use, ReadsIn, EquationReads, AreUses, SiteReads}
 use Rattle.moment_theory.specs.Division.{uses_where, IsReachedWhere, ArePure, is_number, is_of_partition, is_waiting, parts_from, joined, moment_order, ArePartitionsBelow}
-use Rattle.moment_theory.specs.Free.{AsksLast, AsksClass, IsReachedBy, IsFree, AreFree, AreSameUses}
+use Rattle.moment_theory.specs.Free.{AsksClass, IsReachedBy, AreFree, AreSameUses}
 use Rattle.moment_theory.specs.Pieces.{AreApart}
 use Rattle.moment_theory.proofs.Facts.{Facts, UseFacts, facts_of_use, class_of_use}
 use Rattle.moment_theory.proofs.FromRunnable.{facts_of, all_at, element}
@@ -206,15 +206,15 @@ module _ (s : Setting) (runs : IsRunnable s) (uses : List Use) (are : AreUses s 
   parts_free k zero = tt
   parts_free k (suc count) = append_free s (uses_where (is_of_partition s k) uses) (joined (parts_from s uses (suc k) count)) (where_free (is_of_partition s k)) (parts_free (suc k) count)
       (λ entry equation y member found reads reached.
-          let own = part_from k entry member in
-          let (other, there, same) = member_reached (joined (parts_from s uses (suc k) count)) y reached in
-          let (use_is, (p, at, le)) = parts_are (suc k) count other there in
-          other_place k p (place other) (reads_place entry other equation y own.0 use_is same found reads k own.1) at le)
+      let own = part_from k entry member in
+      let (other, there, same) = member_reached (joined (parts_from s uses (suc k) count)) y reached in
+      let (use_is, (p, at, le)) = parts_are (suc k) count other there in
+      other_place k p (place other) (reads_place entry other equation y own.0 use_is same found reads k own.1) at le)
       (λ entry member reached.
-          let own = part_from k entry member in
-          let (other, there, same) = member_reached (joined (parts_from s uses (suc k) count)) entry.name reached in
-          let (use_is, (p, at, le)) = parts_are (suc k) count other there in
-          other_place k p (place other) (names_place entry other own.0 use_is same ∙ own.1) at le)
+      let own = part_from k entry member in
+      let (other, there, same) = member_reached (joined (parts_from s uses (suc k) count)) entry.name reached in
+      let (use_is, (p, at, le)) = parts_are (suc k) count other there in
+      other_place k p (place other) (names_place entry other own.0 use_is same ∙ own.1) at le)
     where
       where_free : (test : Use → Bool) → AreReadFree s (uses_where test uses)
       where_free test = kept_free s test uses free
@@ -269,22 +269,22 @@ module _ (s : Setting) (runs : IsRunnable s) (uses : List Use) (are : AreUses s 
     rest_free : AreReadFree s (parts ++ waiting)
     rest_free = append_free s parts waiting (parts_free 0 count) (kept_free s (is_waiting s pure) uses free)
         (λ entry equation y member found reads reached.
-            let (own, (p, at, le)) = parts_are 0 count entry member in
-            let (other, there, same) = member_reached waiting y reached in
-            not_waiting p other there (reads_place entry other equation y own (is_waiting_use other there).0 same found reads p at))
+        let (own, (p, at, le)) = parts_are 0 count entry member in
+        let (other, there, same) = member_reached waiting y reached in
+        not_waiting p other there (reads_place entry other equation y own (is_waiting_use other there).0 same found reads p at))
         (λ entry member reached.
-            let (own, (p, at, le)) = parts_are 0 count entry member in
-            let (other, there, same) = member_reached waiting entry.name reached in
-            not_waiting p other there (names_place entry other own (is_waiting_use other there).0 same ∙ at))
+        let (own, (p, at, le)) = parts_are 0 count entry member in
+        let (other, there, same) = member_reached waiting entry.name reached in
+        not_waiting p other there (names_place entry other own (is_waiting_use other there).0 same ∙ at))
 
     all_free : AreReadFree s (moment_order s pure count uses)
     all_free = append_free s pures (parts ++ waiting) (kept_free s pure uses free) rest_free
         (λ entry equation y member found reads reached.
-            let h = is_pure_use entry member in
-            reached_impure (parts ++ waiting) rest_impure y (is_pure.reads entry y (member_contains entry uses h.0) h.1 (equation, found, reads) (reached_use (parts ++ waiting) rest_impure y reached)) reached)
+        let h = is_pure_use entry member in
+        reached_impure (parts ++ waiting) rest_impure y (is_pure.reads entry y (member_contains entry uses h.0) h.1 (equation, found, reads) (reached_use (parts ++ waiting) rest_impure y reached)) reached)
         (λ entry member reached.
-            let h = is_pure_use entry member in
-            reached_impure (parts ++ waiting) rest_impure entry.name (entry, member_contains entry uses h.0, h.1, refl) reached)
+        let h = is_pure_use entry member in
+        reached_impure (parts ++ waiting) rest_impure entry.name (entry, member_contains entry uses h.0, h.1, refl) reached)
 
     within : (entry : Use) → IsMember entry (moment_order s pure count uses) → IsMember entry uses
     within entry member = elim (member_append pures (parts ++ waiting) entry member) [

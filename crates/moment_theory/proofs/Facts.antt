@@ -1,21 +1,19 @@
 -- What the model gives of each equation that is used, and with it a free order as the lemmas take it.
-use Rattle.std.proofs.Common.{◌≡◌, ◌≢◌, refl, ap, ◌∙◌, sym, subst, ℕ, ◌+◌, ◌<◌, ◌≤◌, true, false, List, [], ◌∷◌, ◌++◌, Option, Some, None, slice_get, Contains, ◌⊎◌, inl, inr, arith}
-use Rattle.std.proofs.lemmas.Option.{same_Some}
-use Rattle.flat_model.specs.declared.clock.Clock.{Clock}
+use Rattle.std.proofs.Common.{◌≡◌, ◌≢◌, refl, subst, ℕ, ◌<◌, true, false, List, [], ◌∷◌, ◌++◌, Option, Some, None, slice_get, Contains, ◌⊎◌, inl, inr, arith}
 use Rattle.flat_model.specs.declared.equation.Equation.{Equation}
 use Rattle.flat_model.specs.declared.equation.Equation.TheVariants.{Valued, Clocks}
 use Rattle.flat_model.specs.declared.expression.Expr.{Expr}
 use Rattle.flat_model.specs.declared.model.FlatName.{FlatName}
 use Rattle.flat_model.specs.declared.model.NameKind.TheVariants as kind
-use Rattle.flat_model.specs.Occurrences.{bare_count, held_count, converted_count, is_reached, sample_count}
+use Rattle.flat_model.specs.Occurrences.{held_count, converted_count, sample_count}
 use Rattle.flat_model.specs.Moments.{moment_at}
 use Rattle.flat_model.specs.declared.clock.Moment.{Moment}
 use Rattle.flat_model.specs.Setting.{Setting, class_of_name, class_of_equation, clock_of}
-use Rattle.flat_model.specs.Uses.{Use, ReadsIn, EquationReads, Reads, IsSolvableFor, IsUnreached, CanReach, IsNextUse, AreUsesAfter, AreUses, SiteReads}
+use Rattle.flat_model.specs.Uses.{Use, IsSolvableFor, CanReach, AreUsesAfter, AreUses}
 use Rattle.flat_model.proofs.OneSolution.{AreSitesUnclocked}
-use Rattle.moment_theory.specs.Free.{AsksLastIn, AsksLast, AsksClass, IsReachedBy, IsFree, AreFree, AreSameUses}
+use Rattle.moment_theory.specs.Free.{AsksLastIn, IsFree, AreFree, AreSameUses}
 use Rattle.flat_model.specs.Clocks.{AreOnOneAxis}
-use Rattle.moment_theory.proofs.Ordered.{IsFreeSide, IsFreeUse, AreFreeUses}
+use Rattle.moment_theory.proofs.Ordered.{IsFreeUse, AreFreeUses}
 use Rattle.moment_theory.proofs.GivenByOrder.{AreInputsUnclocked, AreSameMembers}
 use Rattle.moment_theory.proofs.Meeting.{AreClassed, HasTableValues}
 use Rattle.moment_theory.proofs.Members.{IsMember, contains_member, member_contains}

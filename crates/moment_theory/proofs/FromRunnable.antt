@@ -1,12 +1,9 @@
 -- What the front end gives to a run, as the lemmas of a moment take it.
-use Rattle.std.proofs.Common.{◌≡◌, ◌≢◌, refl, ap, ◌∙◌, sym, subst, ℕ, ◌+◌, ◌<◌, ◌≤◌, false, List, length, get_or, All, Option, Some, None, slice_get, ◌⊎◌, inl, inr, arith}
+use Rattle.std.proofs.Common.{◌≡◌, ◌≢◌, refl, ◌∙◌, sym, subst, ℕ, ◌<◌, false, List, length, get_or, All, Option, Some, None, slice_get, inl, inr, arith}
 use Rattle.std.specs.Prelude.{option_map}
 use Rattle.std.proofs.lemmas.List.Elements.{All-get_or}
-use Rattle.std.proofs.lemmas.Option.{same_Some, none-some, slice_get_within, slice_get-get_or, get_or_from_slice_get}
-use Rattle.flat_model.specs.declared.clock.Clock.{Clock}
-use Rattle.flat_model.specs.declared.clock.Clock.TheVariants.{Periodic, Event}
-use Rattle.flat_model.specs.declared.clock.Moment.{Moment}
-use Rattle.flat_model.specs.declared.equation.Equation.{Equation}
+use Rattle.std.proofs.lemmas.Option.{none-some, slice_get_within, slice_get-get_or, get_or_from_slice_get}
+use Rattle.flat_model.specs.declared.clock.Clock.TheVariants.{Event}
 use Rattle.flat_model.specs.declared.equation.Equation.TheVariants.{Valued}
 use Rattle.flat_model.specs.declared.expression.Expr.{Expr}
 use Rattle.flat_model.specs.declared.expression.Expr.TheVariants as expr
@@ -14,18 +11,16 @@ use Rattle.flat_model.specs.declared.model.FlatName.{FlatName}
 use Rattle.flat_model.specs.declared.model.NameKind.{NameKind}
 use Rattle.flat_model.specs.declared.model.NameKind.TheVariants as kind
 use Rattle.sync_values.specs.declared.value.Value.TheVariants as value
-use Rattle.flat_model.specs.Asks.{Asking, OfNow, OfLast, asked}
-use Rattle.flat_model.specs.Moments.{moment_at}
-use Rattle.flat_model.specs.Occurrences.{bare_count, held_count, converted_count, sample_count}
+use Rattle.flat_model.specs.Asks.{OfNow, OfLast, asked}
+use Rattle.flat_model.specs.Occurrences.{sample_count}
 use Rattle.flat_model.specs.Runnable.{CanRun, IsSideClocked, IsCondition, IsRunnable}
-use Rattle.flat_model.specs.Setting.{Setting, class_of_name, class_of_equation, clock_of}
+use Rattle.flat_model.specs.Setting.{Setting, clock_of}
 use Rattle.flat_model.specs.Typing.{Types, types_in, valued_type}
 use Rattle.flat_model.specs.WholeTyping.{IsTyped, whole_type_of}
 use Rattle.flat_model.proofs.Links.{asked_bare, asked_last}
 use Rattle.flat_model.proofs.OneSolution.{AreSitesUnclocked}
 use Rattle.moment_theory.specs.Free.{AsksLastIn}
-use Rattle.moment_theory.proofs.Meeting.{IsValued, IsSideClassed, AreClassed, HasTableValues}
-use Rattle.moment_theory.proofs.Alone.{is_formed}
+use Rattle.moment_theory.proofs.Meeting.{IsValued, IsSideClassed}
 use Rattle.moment_theory.proofs.Columns.{input_cell}
 use Rattle.moment_theory.proofs.Facts.{Facts}
 use Rattle.moment_theory.proofs.Named.{typed_names, typed_formed}

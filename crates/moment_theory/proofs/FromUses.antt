@@ -1,10 +1,10 @@
 -- The uses of a model are in an order in which none reads what a later one reaches, and stay so where they are taken part by part.
-use Rattle.std.proofs.Common.{◌≡◌, ◌≢◌, refl, ap, ◌∙◌, sym, subst, ℕ, zero, suc, ◌+◌, ◌<◌, ◌≤◌, Bool, true, false, List, [], ◌∷◌, ◌++◌, map, length, Option, Some, None, slice_get, Contains, if◌then◌else◌, ◌⊎◌, inl, inr, arith}
+use Rattle.std.proofs.Common.{◌≡◌, refl, ap, ◌∙◌, sym, subst, ℕ, zero, suc, Bool, true, false, List, [], ◌∷◌, ◌++◌, map, Some, slice_get, Contains, if◌then◌else◌, ◌⊎◌, inl, inr, arith}
 use Rattle.std.proofs.lemmas.List.Elements.{Contains-append_left, Contains-append_right}
 use Rattle.std.proofs.lemmas.Option.{same_Some}
 use Rattle.flat_model.specs.declared.equation.Equation.{Equation}
 use Rattle.flat_model.specs.Setting.{Setting}
-use Rattle.flat_model.specs.Uses.{Use, EquationReads, IsUnreached, CanReach, IsNextUse, AreUsesAfter, AreUses, reached_names}
+use Rattle.flat_model.specs.Uses.{Use, EquationReads, IsUnreached, AreUsesAfter, AreUses, reached_names}
 use Rattle.moment_theory.specs.Division.{uses_where}
 use Rattle.moment_theory.specs.Free.{IsReachedBy}
 use Rattle.moment_theory.proofs.Members.{IsMember}

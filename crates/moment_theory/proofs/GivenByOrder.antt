@@ -1,23 +1,21 @@
 -- What uses give in a free order over the inputs are the given values, and nothing else.
-use Rattle.std.proofs.Common.{◌≡◌, ◌≢◌, refl, ap, ◌∙◌, sym, subst, ℕ, true, false, List, [], ◌∷◌, Option, Some, None, IsSome, slice_get, Contains, ◌⊎◌, inl, inr}
+use Rattle.std.proofs.Common.{◌≡◌, refl, ap, ◌∙◌, sym, subst, ℕ, true, false, List, [], ◌∷◌, Option, Some, None, IsSome, slice_get, Contains, inl, inr}
 use Rattle.std.proofs.lemmas.Bool.{false≢true}
-use Rattle.std.proofs.lemmas.Option.{same_Some, none-some}
+use Rattle.std.proofs.lemmas.Option.{same_Some}
 use Rattle.sync_values.specs.declared.value.Value.{Value}
-use Rattle.flat_model.specs.declared.clock.Moment.{Moment}
 use Rattle.flat_model.specs.declared.model.FlatName.{FlatName}
-use Rattle.flat_model.specs.Moments.{moment_at, table_value}
 use Rattle.flat_model.specs.Assignment.{Assignment}
-use Rattle.flat_model.specs.Setting.{Setting, class_of_name, class_ticks}
+use Rattle.flat_model.specs.Setting.{Setting, class_of_name}
 use Rattle.flat_model.specs.Uses.{Use}
 use Rattle.flat_model.specs.Given.{Row, with_row, IsKnownToTick, IsClosed, IsGiven}
 use Rattle.flat_model.proofs.OneSolution.{AreSitesUnclocked}
 use Rattle.moment_theory.specs.Free.{IsReachedBy}
-use Rattle.moment_theory.proofs.Ordered.{IsFreeUse, AreFreeUses}
+use Rattle.moment_theory.proofs.Ordered.{AreFreeUses}
 use Rattle.moment_theory.specs.Taken.{AreTaken, AreInputs}
 use Rattle.flat_model.proofs.Above.{IsBelow}
 use Rattle.moment_theory.proofs.Rows.{row_now}
 use Rattle.moment_theory.proofs.Transfer.{IsSound}
-use Rattle.moment_theory.proofs.Taking.{IsClear, unchanged, taken_up, taken_sound, taken_least, taken_closed}
+use Rattle.moment_theory.proofs.Taking.{IsClear, unchanged, taken_sound, taken_least, taken_closed}
 use Rattle.moment_theory.proofs.Members.{IsMember}
 
 -- inputs are unclocked

@@ -1,5 +1,5 @@
 -- What a group of names and classes does rests on that group alone, at every moment.
-use Rattle.std.proofs.Common.{◌≡◌, refl, ap, ap₂, ◌∙◌, sym, subst, ℕ, zero, suc, ◌+◌, ◌-◌, ◌<◌, ◌≤◌, ◌%◌, ◌==◌, ◌&&◌, nat_le, Bool, true, false, is_none, Option, Some, None, slice_get, if◌then◌else◌, arith}
+use Rattle.std.proofs.Common.{◌≡◌, refl, ap, ap₂, sym, ℕ, zero, suc, ◌+◌, ◌-◌, ◌<◌, ◌≤◌, ◌%◌, ◌==◌, ◌&&◌, nat_le, Bool, true, false, is_none, Option, Some, None, slice_get, if◌then◌else◌, arith}
 use Rattle.sync_values.specs.declared.value.Value.{Value}
 use Rattle.flat_model.specs.declared.clock.Clock.{Clock}
 use Rattle.flat_model.specs.declared.clock.Clock.TheVariants.{Periodic, Event}
@@ -9,12 +9,10 @@ use Rattle.flat_model.specs.declared.expression.Expr.{Expr}
 use Rattle.flat_model.specs.Views.{Length}
 use Rattle.flat_model.specs.Meaning.{value_of}
 use Rattle.flat_model.specs.Moments.{moment_at}
-use Rattle.flat_model.specs.Occurrences.{bare_count}
-use Rattle.flat_model.specs.Assignment.{Assignment, tick_before, last_value, previous_value}
+use Rattle.flat_model.specs.Assignment.{Assignment, tick_before, previous_value}
 use Rattle.flat_model.specs.Setting.{Setting, class_of_name, clock_of, start_of, site_answer, is_true, is_false, rises, risings_before, clock_ticks, class_ticks, name_ticks, time_between, interval_at, views_at, ticks_in}
 use Rattle.flat_model.proofs.Agreement.{tick_before_same, previous_same}
 use Rattle.flat_model.proofs.OneSolution.{AreSitesUnclocked}
-use Rattle.flat_model.proofs.Above.{IsBelow}
 use Rattle.flat_model.specs.Asks.{Asking, OfNow, OfLast, OfPrevious, OfFirst, OfInterval, asked}
 use Rattle.flat_model.proofs.Asks.{SameAt, value_rests_on_asked, above_both}
 use Rattle.flat_model.specs.Uses.{SiteReads}

@@ -1,5 +1,5 @@
 -- Where nothing fails, the values that uses give meet the model at the moment.
-use Rattle.std.proofs.Common.{◌≡◌, ◌≢◌, refl, ap, ◌∙◌, sym, subst, ℕ, zero, suc, ◌+◌, ◌-◌, ◌<◌, ◌≤◌, ◌==◌, ◌&&◌, if◌then◌else◌, Bool, true, false, List, [], ◌∷◌, Option, Some, None, IsSome, slice_get, arith, ◌⊎◌, inl, inr}
+use Rattle.std.proofs.Common.{◌≡◌, ◌≢◌, refl, ap, ◌∙◌, sym, subst, ℕ, ◌<◌, ◌==◌, ◌&&◌, if◌then◌else◌, Bool, true, false, List, [], ◌∷◌, Option, Some, None, IsSome, slice_get, arith, ◌⊎◌, inl, inr}
 use Rattle.std.proofs.lemmas.Bool.{false≢true, cases_eq, cases_lt}
 use Rattle.std.proofs.lemmas.Bool.Decides.{eqb_tells}
 use Rattle.std.proofs.lemmas.Option.{same_Some, none-some}
@@ -17,12 +17,12 @@ use Rattle.flat_model.specs.declared.model.NameKind.TheVariants as kind
 use Rattle.flat_model.specs.Operators.{Is}
 use Rattle.flat_model.specs.Moments.{moment_at, table_value}
 use Rattle.flat_model.specs.Assignment.{Assignment, IsOfKind}
-use Rattle.flat_model.specs.Occurrences.{bare_count, held_count, converted_count}
+use Rattle.flat_model.specs.Occurrences.{bare_count}
 use Rattle.flat_model.specs.Setting.{Setting, class_of_name, class_of_equation, clock_of, site_answer, class_ticks, name_ticks, equation_ticks, views_at}
 use Rattle.flat_model.specs.Meets.{MeetsAt, MeetsBefore, Meets, HasValueAtTicks, HasOneValue}
-use Rattle.flat_model.specs.Uses.{Use, ReadsIn, ClassesMeet}
-use Rattle.flat_model.specs.Given.{Row, with_row, with_value, IsKnownOf, IsKnown, IsKnownToTick, HasLastValue, HasReadIn, HasReadsBut, Solves, CanUse, IsOnlySolution}
-use Rattle.flat_model.proofs.Agreement.{SameBefore, SameUpTo, views_same, meets_same}
+use Rattle.flat_model.specs.Uses.{Use, ReadsIn}
+use Rattle.flat_model.specs.Given.{Row, with_row, with_value, IsKnownOf, IsKnown, HasLastValue, HasReadIn, CanUse, IsOnlySolution}
+use Rattle.flat_model.proofs.Agreement.{SameUpTo, views_same, meets_same}
 use Rattle.flat_model.proofs.OneSolution.{AreSitesUnclocked}
 use Rattle.moment_theory.specs.Free.{AsksLastIn, IsReachedBy}
 use Rattle.moment_theory.proofs.Ordered.{IsFreeSide, IsFreeUse, AreFreeUses}
@@ -184,9 +184,9 @@ module _ (s : Setting) (unclocked : AreSitesUnclocked s) (inputs : AreInputsUncl
           | inl is ↦ subst (λ z. HasTyped s z (last z)) (sym is)
               (typed_use entry (now (subst (λ c. class_ticks s T c m ≡ true) free.0.class_is (subst (λ z. name_ticks s T z m ≡ true) is ticks))))
           | inr other ↦ has y (λ h. elim h [
-              | inl is ↦ other is
-              | inr reached ↦ not reached
-            ]) ticks valued
+            | inl is ↦ other is
+            | inr reached ↦ not reached
+          ]) ticks valued
         ]
 
         by_place : ((e : Use) → IsMember e later → class_ticks s T (class_of_equation s e.equation) m ≡ true → HasUse e) → (other : Use) → IsMember other (entry ∷ later)

@@ -1,5 +1,5 @@
 -- The entries of a list of uses, one by one.
-use Rattle.std.proofs.Common.{◌≡◌, refl, ap, ◌<◌, ℕ, zero, suc, List, [], ◌∷◌, Contains, ◌⊎◌, inl, inr, sym, arith}
+use Rattle.std.proofs.Common.{◌≡◌, refl, ap, ℕ, zero, suc, List, [], ◌∷◌, Contains, ◌⊎◌, inl, inr, sym, arith}
 use Rattle.flat_model.specs.Uses.{Use}
 use Rattle.moment_theory.specs.Free.{IsReachedBy}
 

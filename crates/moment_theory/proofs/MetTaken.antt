@@ -1,21 +1,20 @@
 -- Where an assignment meets a model at a moment, its row is what the uses give: so it is alone, and nothing failed.
-use Rattle.std.proofs.Common.{◌≡◌, ◌≢◌, refl, ap, ◌∙◌, sym, subst, ℕ, zero, suc, ◌+◌, ◌<◌, ◌≤◌, ◌==◌, if◌then◌else◌, Bool, true, false, List, [], ◌∷◌, length, Option, Some, None, IsSome, slice_get, ◌⊎◌, inl, inr, arith}
+use Rattle.std.proofs.Common.{◌≡◌, refl, ap, ◌∙◌, sym, subst, ℕ, suc, ◌+◌, ◌<◌, ◌==◌, if◌then◌else◌, Bool, true, false, List, [], ◌∷◌, Option, Some, None, IsSome, slice_get, ◌⊎◌, inl, inr, arith}
 use Rattle.std.proofs.Math.Path.{fun_ext}
-use Rattle.std.proofs.lemmas.Bool.{cases_eq, false≢true, true≢false}
+use Rattle.std.proofs.lemmas.Bool.{false≢true, true≢false}
 use Rattle.std.proofs.lemmas.Bool.Decides.{eqb_tells}
-use Rattle.std.proofs.lemmas.Option.{same_Some, none-some}
+use Rattle.std.proofs.lemmas.Option.{same_Some}
 use Rattle.sync_values.specs.declared.value.Value.{Value}
 use Rattle.flat_model.specs.declared.clock.Moment.{Moment}
 use Rattle.flat_model.specs.declared.equation.Equation.{Equation}
-use Rattle.flat_model.specs.declared.equation.Equation.TheVariants.{Valued, Clocks}
+use Rattle.flat_model.specs.declared.equation.Equation.TheVariants.{Valued}
 use Rattle.flat_model.specs.declared.expression.Expr.{Expr}
 use Rattle.flat_model.specs.declared.model.FlatName.{FlatName}
 use Rattle.flat_model.specs.declared.model.NameKind.{NameKind}
 use Rattle.flat_model.specs.declared.model.NameKind.TheVariants as kind
 use Rattle.flat_model.specs.Moments.{moment_at}
 use Rattle.flat_model.specs.Assignment.{Assignment, IsOfKind}
-use Rattle.flat_model.specs.Occurrences.{held_count, converted_count}
-use Rattle.flat_model.specs.Setting.{Setting, class_of_name, class_of_equation, clock_of, class_ticks, name_ticks, views_at}
+use Rattle.flat_model.specs.Setting.{Setting, class_of_name, class_of_equation, clock_of, class_ticks, name_ticks}
 use Rattle.flat_model.specs.Meets.{MeetsAt, MeetsBefore, HasValueAtTicks, HasOneValue}
 use Rattle.flat_model.specs.Uses.{Use, AreUses}
 use Rattle.flat_model.specs.Given.{Row, with_row, with_value, IsKnown, HasLastValue, HasReadIn, Solves, CanUse, IsOnlySolution}
@@ -34,7 +33,7 @@ use Rattle.moment_theory.proofs.Meeting.{IsValued, IsSideClassed, AreClassed, Ar
 use Rattle.moment_theory.proofs.NoSolution.{value_at, free_of}
 use Rattle.moment_theory.proofs.Apart.{gives_same}
 use Rattle.moment_theory.proofs.Running.{IsReady}
-use Rattle.moment_theory.proofs.Ran.{with_own_row, IsTakenAt, RanAt, run_all}
+use Rattle.moment_theory.proofs.Ran.{with_own_row, RanAt, run_all}
 
 -- no use has two solutions at a moment at which it counts
 abbrev pub AreSolvedOnce : Setting → List Use → Type 0
@@ -175,7 +174,7 @@ module _ (s : Setting) (unclocked : AreSitesUnclocked s) (inputs : AreInputsUncl
         then_row row entry.name,
         step,
         walk later free.1 (λ e h. members e (inr h)) (then_row row entry.name) (step_clear s unclocked T m entry later row (then_row row entry.name) free.0 clear step)
-        (step_sound s unclocked T m entry later row (then_row row entry.name) free.0 (clear entry.name (inl refl)) step sound_row) (λ y not. next y not (eqb_tells y entry.name)),
+            (step_sound s unclocked T m entry later row (then_row row entry.name) free.0 (clear entry.name (inl refl)) step sound_row) (λ y not. next y not (eqb_tells y entry.name)),
       )
     where
       next : (y : ℕ) → (IsReachedBy y later → ⊥) → ((y == entry.name ≡ true) × (y ≡ entry.name)) ⊎ ((y == entry.name ≡ false) × (y ≡ entry.name → ⊥)) → then_row row entry.name y ≡ T y m
@@ -245,7 +244,7 @@ module _ (s : Setting) (unclocked : AreSitesUnclocked s) (inputs : AreInputsUncl
       let name_same : free.name ≡ name = same_Some free.name name (sym free.name_is ∙ can.name_is) in (
         v,
         subst (λ n. IsOnlySolution s T m entry.equation equation n entry.name v) name_same
-        (subst (λ q. IsOnlySolution s T m entry.equation q free.name entry.name v) equation_same (only_here entry later free member can.ticks.1 v is typed_as)),
+            (subst (λ q. IsOnlySolution s T m entry.equation q free.name entry.name v) equation_same (only_here entry later free member can.ticks.1 v is typed_as)),
       )
 
 -- what meets a runnable model before n is alone in that, and nothing failed

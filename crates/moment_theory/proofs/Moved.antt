@@ -1,9 +1,7 @@
 -- What is given, what is taken and what fails at a moment rest on the values up to it.
-use Rattle.std.proofs.Common.{◌≡◌, ◌≢◌, refl, ap, ◌∙◌, sym, subst, ℕ, zero, suc, ◌<◌, ◌≤◌, ◌==◌, ◌&&◌, if◌then◌else◌, Bool, true, false, List, [], ◌∷◌, Contains, Option, Some, None, IsSome, slice_get, ◌⊎◌, inl, inr, arith}
-use Rattle.std.proofs.Math.Path.{fun_ext}
+use Rattle.std.proofs.Common.{◌≡◌, refl, ap, ◌∙◌, sym, subst, ℕ, ◌==◌, ◌&&◌, if◌then◌else◌, true, false, List, [], ◌∷◌, Option, Some, None, IsSome, ◌⊎◌, inl, inr, arith}
 use Rattle.std.proofs.lemmas.Bool.Decides.{eqb_tells}
 use Rattle.sync_values.specs.declared.value.Value.{Value}
-use Rattle.sync_values.specs.declared.value.Value.TheVariants as value
 use Rattle.sync_values.specs.declared.value.Fail.{Fail}
 use Rattle.flat_model.specs.declared.clock.Clock.{Clock}
 use Rattle.flat_model.specs.declared.clock.Clock.TheVariants.{Periodic, Event}
@@ -13,14 +11,13 @@ use Rattle.flat_model.specs.declared.expression.Expr.{Expr}
 use Rattle.flat_model.specs.declared.fault.FaultPlace.{FaultPlace}
 use Rattle.flat_model.specs.declared.fault.FaultPlace.TheVariants as place
 use Rattle.flat_model.specs.declared.model.FlatName.{FlatName}
-use Rattle.flat_model.specs.Operators.{Is, Fails}
 use Rattle.flat_model.specs.Meaning.{seen_by}
 use Rattle.flat_model.specs.Parts.{kind_of, parts_beside}
 use Rattle.flat_model.specs.Assignment.{Assignment}
-use Rattle.flat_model.specs.Setting.{Setting, class_of_name, class_of_equation, clock_of, site_answer, class_ticks, views_at}
+use Rattle.flat_model.specs.Setting.{Setting, class_of_name, class_of_equation, clock_of, class_ticks}
 use Rattle.flat_model.specs.Meets.{HasOneValue}
 use Rattle.flat_model.specs.Uses.{Use}
-use Rattle.flat_model.specs.Given.{Row, with_row, with_value, IsKnownOf, IsKnown, IsKnownToTick, HasLastValue, HasReadIn, HasReadsBut, Solves, IsOnlySolution, CanUse, IsClosed, IsGiven}
+use Rattle.flat_model.specs.Given.{Row, with_row, with_value, IsKnownOf, IsKnown, HasLastValue, HasReadIn, HasReadsBut, Solves, IsOnlySolution, CanUse, IsClosed, IsGiven}
 use Rattle.flat_model.specs.Faults.{SiteFails, EquationFails, SomethingFails, IsFirstToFail}
 use Rattle.flat_model.proofs.Agreement.{SameBefore, SameUpTo, site_same, class_ticks_same, views_same}
 use Rattle.moment_theory.specs.Taken.{Gives, IsTaken, AreTaken}

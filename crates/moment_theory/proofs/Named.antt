@@ -1,5 +1,5 @@
 -- In a typed expression each name that is asked for has values, and each chain has an operator between each part and the next.
-use Rattle.std.proofs.Common.{◌≡◌, refl, ap, ◌∙◌, sym, subst, ℕ, zero, suc, ◌+◌, ◌<◌, ◌≤◌, ◌==◌, ◌&&◌, nat_le, Bool, true, false, if◌then◌else◌, List, [], ◌∷◌, map, length, Option, Some, None, arith, ◌⊎◌, inl, inr}
+use Rattle.std.proofs.Common.{◌≡◌, refl, ◌∙◌, sym, subst, ℕ, zero, suc, ◌+◌, ◌<◌, ◌==◌, ◌&&◌, nat_le, Bool, true, false, if◌then◌else◌, List, [], ◌∷◌, map, length, Option, Some, None, arith, ◌⊎◌, inl, inr}
 use Rattle.std.specs.List.{list_all}
 use Rattle.std.proofs.lemmas.List.{length-map}
 use Rattle.std.proofs.lemmas.Bool.{false≢true, and_parts, and_from, eqb-true, eq-eqb}
@@ -11,11 +11,11 @@ use Rattle.flat_model.specs.declared.expression.Expr.{Expr}
 use Rattle.flat_model.specs.declared.clock.ClockExpr.{ClockExpr}
 use Rattle.flat_model.specs.declared.clock.ClockExpr.TheOpen.{Expr-F}
 use Rattle.flat_model.specs.declared.clock.ClockExpr.TheViews.{roll-Expr}
-use Rattle.flat_model.specs.declared.clock.ClockExpr.TheFolds.{fold-Expr, ind-Expr, fold-roll-Expr, map-Expr}
+use Rattle.flat_model.specs.declared.clock.ClockExpr.TheFolds.{ind-Expr, fold-roll-Expr, map-Expr}
 use Rattle.flat_model.specs.Asks.{Asking, OfNow, OfLast, OfPrevious, OfFirst, OfInterval, Asked, asked, asked_in_level, all_asked, here, is_now, is_last, is_previous, is_first, is_interval}
 use Rattle.flat_model.specs.Occurrences.{one_if}
-use Rattle.flat_model.specs.Typing.{Types, valued_type, is_type, typed_if, goes_with, type_of_operator, type_if_all, chain_type, relation_type, if_type, arity, call_type, type_of_level}
-use Rattle.flat_model.specs.WholeTyping.{clock_level, whole_level, sampled_type, is_variable_if, whole_type_of, is_typed_clock}
+use Rattle.flat_model.specs.Typing.{Types, valued_type, is_type, goes_with, type_of_operator, type_if_all, chain_type, relation_type, if_type, arity}
+use Rattle.flat_model.specs.WholeTyping.{clock_level, whole_level, sampled_type, whole_type_of, is_typed_clock}
 use Rattle.flat_model.proofs.Asks.{asked_roll}
 use Rattle.moment_theory.proofs.Alone.{is_formed, formed_level, formed_roll}
 

@@ -1,26 +1,22 @@
 -- Where something fails over the given values, nothing meets the model at the moment; where nothing does, only one assignment does.
-use Rattle.std.proofs.Common.{◌≡◌, ◌≢◌, refl, ap, ◌∙◌, sym, subst, ℕ, zero, suc, ◌+◌, ◌<◌, ◌≤◌, Bool, true, false, List, [], ◌∷◌, length, Option, Some, None, IsSome, slice_get, Contains, arith, ◌⊎◌, inl, inr, ◌==◌, if◌then◌else◌}
+use Rattle.std.proofs.Common.{◌≡◌, ◌≢◌, refl, ◌∙◌, sym, subst, ℕ, Bool, true, false, List, [], ◌∷◌, Option, Some, None, slice_get, inl, inr, ◌==◌, if◌then◌else◌}
 use Rattle.std.proofs.Math.Path.{fun_ext}
-use Rattle.std.proofs.lemmas.Option.{same_Some}
 use Rattle.sync_values.specs.declared.value.Value.{Value}
 use Rattle.sync_values.specs.declared.value.Value.TheVariants as value
 use Rattle.sync_values.specs.declared.value.Fail.{Fail}
-use Rattle.flat_model.specs.declared.expression.Expr.{Expr}
-use Rattle.flat_model.specs.declared.equation.Equation.{Equation}
 use Rattle.flat_model.specs.declared.model.FlatName.{FlatName}
 use Rattle.flat_model.specs.declared.model.NameKind.{NameKind}
 use Rattle.flat_model.specs.declared.model.NameKind.TheVariants as kind
-use Rattle.flat_model.specs.Operators.{Answer, Is, Fails}
+use Rattle.flat_model.specs.Operators.{Is, Fails}
 use Rattle.flat_model.specs.Assignment.{Assignment, IsOfKind}
-use Rattle.flat_model.specs.Setting.{Setting, class_of_name, class_of_equation, site_answer, class_ticks, name_ticks, views_at}
+use Rattle.flat_model.specs.Setting.{Setting, class_of_equation, site_answer, class_ticks, name_ticks}
 use Rattle.flat_model.specs.Meets.{MeetsAt, HasValueAtTicks, HasOneValue}
 use Rattle.flat_model.specs.Uses.{Use}
 use Rattle.flat_model.specs.Given.{Row, with_row, with_value, IsGiven, CanUse, Solves, IsOnlySolution}
 use Rattle.flat_model.specs.Faults.{SiteFails, EquationFails, SomethingFails}
-use Rattle.flat_model.proofs.Agreement.{SameBefore, SameUpTo, views_same}
+use Rattle.flat_model.proofs.Agreement.{SameBefore, views_same}
 use Rattle.flat_model.proofs.GivenValues.{AreOfOneClass, given_where_met}
 use Rattle.flat_model.proofs.OneSolution.{AreSitesUnclocked, same_where_given}
-use Rattle.moment_theory.specs.Free.{IsReachedBy}
 use Rattle.moment_theory.proofs.Ordered.{IsFreeUse, AreFreeUses}
 use Rattle.moment_theory.specs.Taken.{Gives, IsTaken, AreTaken, AreInputs}
 use Rattle.flat_model.proofs.Above.{IsBelow, Above}

@@ -1,11 +1,8 @@
 -- Each equation has one use.
-use Rattle.std.proofs.Common.{◌≡◌, refl, ap, ap₂, ◌∙◌, sym, subst, ℕ, zero, suc, ◌<◌, ◌≤◌, List, [], ◌∷◌, ◌++◌, map, Contains, Option, Some, arith, ◌⊎◌, inl, inr}
-use Rattle.std.proofs.lemmas.Bool.{cases_lt, cases_eq}
+use Rattle.std.proofs.Common.{◌≡◌, refl, ap, ◌∙◌, sym, subst, ℕ, List, [], ◌∷◌, ◌++◌, Contains, arith, inl, inr}
 use Rattle.std.proofs.lemmas.List.Elements.{Contains-append_left, Contains-append_right}
-use Rattle.std.proofs.lemmas.Option.{same_Some}
-use Rattle.flat_model.specs.declared.equation.Equation.{Equation}
 use Rattle.flat_model.specs.Setting.{Setting}
-use Rattle.flat_model.specs.Uses.{Use, EquationReads, CanReach, IsNextUse, AreUsesAfter, AreUses, used_equations}
+use Rattle.flat_model.specs.Uses.{Use, AreUsesAfter, AreUses, used_equations}
 use Rattle.moment_theory.proofs.Members.{IsMember, contains_member}
 
 used_append : (xs ys : List Use) → used_equations (xs ++ ys) ≡ used_equations xs ++ used_equations ys

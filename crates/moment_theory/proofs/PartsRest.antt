@@ -1,5 +1,5 @@
 -- The parts beside the way to a name have the same answers where all that is asked for but that name is the same.
-use Rattle.std.proofs.Common.{◌≡◌, refl, ap, ap₂, ◌∙◌, sym, subst, ℕ, zero, suc, ◌+◌, ◌<◌, ◌≤◌, ◌==◌, ◌||◌, Bool, true, false, if◌then◌else◌, List, [], ◌∷◌, ◌++◌, map, flat_map, arith, Option}
+use Rattle.std.proofs.Common.{◌≡◌, refl, ap, ap₂, ◌∙◌, sym, subst, ℕ, ◌+◌, ◌<◌, ◌≤◌, ◌==◌, ◌||◌, Bool, true, false, List, [], ◌∷◌, ◌++◌, map, flat_map, arith, Option}
 use Rattle.std.specs.List.{list_any}
 use Rattle.std.proofs.lemmas.Bool.{false≢true}
 use Rattle.sync_values.specs.declared.value.ChainOp.{ChainOp}
@@ -10,14 +10,14 @@ use Rattle.flat_model.specs.declared.clock.ClockExpr.TheOpen.{Expr-F}
 use Rattle.flat_model.specs.declared.clock.ClockExpr.TheViews.{roll-Expr}
 use Rattle.flat_model.specs.declared.clock.ClockExpr.TheFolds.{ind-Expr, fold-roll-Expr, map-Expr}
 use Rattle.flat_model.specs.Occurrences.{one_if}
-use Rattle.flat_model.specs.Operators.{Answer, chain, negated, inverted, relation, chosen}
+use Rattle.flat_model.specs.Operators.{chain, negated, inverted, relation, chosen}
 use Rattle.flat_model.specs.Functions.{called}
 use Rattle.flat_model.specs.Views.{Views, before}
 use Rattle.flat_model.specs.Meaning.{Meaning, meaning_of_level, seen_by, value_of}
 use Rattle.flat_model.specs.Parts.{Way, beside_of, prefix_of, beside_in_chain, meanings_of, level_of_meanings, reaches_through, beside_through, way_through, way_to, parts_beside}
 use Rattle.flat_model.proofs.Above.{value_of_roll}
 use Rattle.flat_model.specs.Asks.{Asking, OfNow, Asked, asked, asked_in_level, all_asked}
-use Rattle.flat_model.proofs.Asks.{asked_roll, SameAt, value_rests_on_asked, one_itself}
+use Rattle.flat_model.proofs.Asks.{asked_roll, SameAt, value_rests_on_asked}
 
 way_to_roll : (x : ℕ) (y : Expr-F ClockExpr Expr) → way_to x (roll-Expr y) ≡ way_through x (map-Expr ClockExpr Expr (Unit {0}) Way (λ _. tt) (way_to x) y)
 unfolding way_to

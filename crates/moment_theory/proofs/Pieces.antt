@@ -1,26 +1,26 @@
 -- Pieces taken by themselves from one base are taken one behind the other.
-use Rattle.std.proofs.Common.{◌≡◌, ◌≢◌, refl, ap, ◌∙◌, sym, subst, ℕ, zero, suc, ◌+◌, ◌<◌, ◌≤◌, List, [], ◌∷◌, ◌++◌, Contains, Option, Some, None, slice_get, ◌⊎◌, inl, inr, arith}
+use Rattle.std.proofs.Common.{◌≡◌, refl, ap, ◌∙◌, sym, subst, ℕ, zero, suc, ◌+◌, ◌<◌, List, [], ◌∷◌, ◌++◌, Some, None, slice_get, ◌⊎◌, inl, inr, arith}
 use Rattle.std.proofs.lemmas.Option.{none-some, same_Some}
 use Rattle.flat_model.specs.declared.equation.Equation.TheVariants.{Valued}
 use Rattle.flat_model.specs.Assignment.{Assignment}
 use Rattle.flat_model.specs.Given.{Row}
 use Rattle.flat_model.specs.Setting.{Setting}
-use Rattle.flat_model.specs.Uses.{Use, Reads, SiteReads}
+use Rattle.flat_model.specs.Uses.{Use}
 use Rattle.moment_theory.specs.Division.{joined}
-use Rattle.moment_theory.specs.Free.{AsksClass, IsReachedBy, IsFree, AreFree, IsOrdered}
+use Rattle.moment_theory.specs.Free.{IsReachedBy, IsFree, AreFree, IsOrdered}
 use Rattle.moment_theory.specs.Pieces.{Needs, AreApart, AreTakenAlone, AreBeside}
 use Rattle.moment_theory.specs.Taken.{AreInputs, AreTaken}
 use Rattle.moment_theory.proofs.Apart.{HoldsNeeds, append_taken}
 use Rattle.moment_theory.proofs.Beside as beside
 use Rattle.moment_theory.proofs.Beside.{HasEach, Together, all_beside, reached_either, reached_first, reached_second, regroup}
-use Rattle.moment_theory.proofs.Facts.{Facts, UseFacts, facts_of_use, free_uses}
+use Rattle.moment_theory.proofs.Facts.{UseFacts, facts_of_use, free_uses}
 use Rattle.moment_theory.proofs.FromRunnable.{facts_of}
 use Rattle.moment_theory.proofs.GivenByOrder.{inputs_clear, inputs_sound}
-use Rattle.moment_theory.proofs.Members.{IsMember, contains_member, member_contains, reached_member, member_reached}
+use Rattle.moment_theory.proofs.Members.{IsMember, member_contains, member_reached}
 use Rattle.moment_theory.proofs.Ordered.{IsFreeUse, AreFreeUses}
 use Rattle.moment_theory.proofs.Running.{IsReady}
 use Rattle.moment_theory.proofs.Settled.{model}
-use Rattle.moment_theory.proofs.Taking.{IsClear, over, unchanged, taken_sound}
+use Rattle.moment_theory.proofs.Taking.{over, unchanged, taken_sound}
 use Rattle.moment_theory.proofs.Transfer as transfer
 use Rattle.moment_theory.proofs.Transfer.{IsSound}
 
@@ -152,9 +152,9 @@ module _ (s : Setting) (uses first rest : List Use) (pieces : List (List Use)) (
       | inl h ↦ let (j, other, lt, there, at) = earlier y h in (j, other, omega (arith, lt), there, at)
       | inr h ↦ (i, piece, omega arith, found, h)
     ]) (λ k. places (suc k) ∙ ap (slice_get pieces) (let e : i + suc k ≡ suc i + k = omega arith in e))
-    grouped
-    (λ entry member. known entry (subst (IsMember entry) (regroup others piece (joined ps)) member))
-    (λ y reached. clear y (subst (IsReachedBy y) (regroup others piece (joined ps)) reached)),
+        grouped
+        (λ entry member. known entry (subst (IsMember entry) (regroup others piece (joined ps)) member))
+        (λ y reached. clear y (subst (IsReachedBy y) (regroup others piece (joined ps)) reached)),
   )
     where
       found : slice_get pieces i ≡ Some piece

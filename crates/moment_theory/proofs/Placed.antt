@@ -1,5 +1,5 @@
 -- Where names and samples stand: what stands bare stands uncut, and what may be sampled, or is a condition, has no `sample`.
-use Rattle.std.proofs.Common.{◌≡◌, refl, ap, ap₂, ◌∙◌, sym, subst, ℕ, ◌+◌, ◌<◌, ◌≤◌, ◌&&◌, Bool, true, false, List, [], ◌∷◌, map, sum, arith}
+use Rattle.std.proofs.Common.{◌≡◌, refl, ap, ap₂, ◌∙◌, sym, subst, ℕ, ◌+◌, ◌≤◌, Bool, true, List, [], ◌∷◌, map, sum, arith}
 use Rattle.std.specs.List.{list_all}
 use Rattle.std.proofs.lemmas.Bool.{false≢true, and_parts}
 use Rattle.std.proofs.lemmas.List.Sums.{sum_by-cons}
@@ -7,10 +7,10 @@ use Rattle.flat_model.specs.declared.expression.Expr.{Expr}
 use Rattle.flat_model.specs.declared.clock.ClockExpr.{ClockExpr}
 use Rattle.flat_model.specs.declared.clock.ClockExpr.TheOpen.{Expr-F}
 use Rattle.flat_model.specs.declared.clock.ClockExpr.TheViews.{roll-Expr}
-use Rattle.flat_model.specs.declared.clock.ClockExpr.TheFolds.{fold-Expr, ind-Expr, fold-roll-Expr, map-Expr}
+use Rattle.flat_model.specs.declared.clock.ClockExpr.TheFolds.{ind-Expr, fold-roll-Expr, map-Expr}
 use Rattle.flat_model.specs.declared.evaluate.Vantage.{Vantage}
-use Rattle.flat_model.specs.declared.evaluate.Vantage.TheVariants.{Now, Left}
-use Rattle.flat_model.specs.Occurrences.{one_if, bare_in_level, uncut_in_level, samples_in_level, direct_level, bare_count, uncut_count, sample_count, is_direct}
+use Rattle.flat_model.specs.declared.evaluate.Vantage.TheVariants.{Left}
+use Rattle.flat_model.specs.Occurrences.{bare_in_level, uncut_in_level, samples_in_level, direct_level, bare_count, uncut_count, sample_count, is_direct}
 use Rattle.flat_model.specs.Samples.{Standing, all_stand, standing_of_level, may_stand}
 
 abbrev counted : (Expr → ℕ) → Expr-F ClockExpr Expr → Expr-F (Unit {0}) ℕ

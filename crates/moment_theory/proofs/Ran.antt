@@ -1,34 +1,30 @@
 -- Moments that were run go on, one after the other.
-use Rattle.std.proofs.Common.{◌≡◌, ◌≢◌, refl, ap, ap₂, ◌∙◌, sym, subst, ℕ, zero, suc, ◌+◌, ◌-◌, ◌<◌, ◌≤◌, ◌==◌, nat_le, if◌then◌else◌, Bool, true, false, List, Contains, Option, Some, None, slice_get, ◌⊎◌, inl, inr, arith}
+use Rattle.std.proofs.Common.{◌≡◌, refl, sym, subst, ℕ, zero, suc, ◌+◌, ◌<◌, ◌≤◌, ◌==◌, Bool, true, false, List, Some, slice_get, ◌⊎◌, inl, inr, arith}
 use Rattle.std.proofs.Math.Path.{fun_ext}
 use Rattle.std.proofs.lemmas.Bool.{cases_lt}
-use Rattle.std.proofs.lemmas.Bool.Decides.{eqb_tells, leb_tells}
+use Rattle.std.proofs.lemmas.Bool.Decides.{eqb_tells}
 use Rattle.sync_values.specs.declared.value.Value.{Value}
 use Rattle.sync_values.specs.declared.value.Value.TheVariants as value
-use Rattle.sync_values.specs.declared.value.Fail.{Fail}
 use Rattle.flat_model.specs.declared.clock.Moment.{Moment}
 use Rattle.flat_model.specs.declared.equation.Equation.{Equation}
 use Rattle.flat_model.specs.declared.expression.Expr.{Expr}
-use Rattle.flat_model.specs.declared.fault.FaultPlace.{FaultPlace}
-use Rattle.flat_model.specs.declared.fault.FaultPlace.TheVariants as place
 use Rattle.flat_model.specs.declared.model.FlatName.{FlatName}
 use Rattle.flat_model.specs.Operators.{Is}
 use Rattle.flat_model.specs.Moments.{moment_at}
 use Rattle.flat_model.specs.Assignment.{Assignment}
 use Rattle.flat_model.specs.Setting.{Setting, site_answer}
-use Rattle.flat_model.specs.Meets.{MeetsAt, MeetsBefore, Meets}
+use Rattle.flat_model.specs.Meets.{MeetsBefore}
 use Rattle.flat_model.specs.Uses.{Use, AreUses}
 use Rattle.flat_model.specs.Given.{Row, with_row, CanUse, IsOnlySolution, IsGiven}
-use Rattle.flat_model.specs.Faults.{SiteFails, EquationFails, SomethingFails, IsFirstToFail, IsFirstFault}
-use Rattle.flat_model.proofs.Agreement.{SameBefore, meets_same}
+use Rattle.flat_model.specs.Faults.{SomethingFails}
+use Rattle.flat_model.proofs.Agreement.{meets_same}
 use Rattle.moment_theory.specs.Going.{AgreeBefore, IsOnlyBefore, HasRun}
 use Rattle.moment_theory.specs.Taken.{AreTaken, AreInputs}
 use Rattle.moment_theory.proofs.Members.{IsMember}
-use Rattle.moment_theory.proofs.GivenByOrder.{AreSameMembers, taken_given}
+use Rattle.moment_theory.proofs.GivenByOrder.{AreSameMembers}
 use Rattle.moment_theory.proofs.Meeting.{HasTableValues}
-use Rattle.moment_theory.proofs.NoSolution.{nothing_fails}
-use Rattle.moment_theory.proofs.Running.{IsReady, next_row, valued_names}
-use Rattle.moment_theory.proofs.Composed.{WasTaken, quiet, moved_use, to_all, from_all}
+use Rattle.moment_theory.proofs.Running.{IsReady, next_row}
+use Rattle.moment_theory.proofs.Composed.{quiet}
 
 -- an assignment with its own row is itself
 pub with_own_row : (U : Assignment) (m : ℕ) → with_row U m (λ x. U x m) ≡ U

@@ -1,19 +1,17 @@
 -- A setting that is runnable, with an order and a free order of the same uses, is ready for the lemmas of a moment.
-use Rattle.std.proofs.Common.{◌≡◌, ◌≢◌, refl, ap, ◌∙◌, sym, subst, ℕ, zero, suc, ◌+◌, ◌<◌, ◌==◌, true, false, List, [], ◌∷◌, map, Contains, Option, Some, None, slice_get, ◌⊎◌, inl, inr, arith}
+use Rattle.std.proofs.Common.{◌≡◌, ◌≢◌, refl, ap, ◌∙◌, sym, subst, ℕ, zero, suc, false, List, [], ◌∷◌, map, Contains, Option, Some, slice_get, ◌⊎◌, inl, inr, arith}
 use Rattle.std.proofs.lemmas.Bool.{cases_eq}
 use Rattle.std.proofs.lemmas.Option.{same_Some}
-use Rattle.sync_values.specs.declared.value.Value.{Value}
 use Rattle.flat_model.specs.declared.equation.Equation.{Equation}
 use Rattle.flat_model.specs.declared.equation.Equation.TheVariants.{Valued}
 use Rattle.flat_model.specs.declared.expression.Expr.{Expr}
 use Rattle.flat_model.specs.declared.model.FlatName.{FlatName}
 use Rattle.flat_model.specs.declared.model.NameKind.TheVariants as kind
-use Rattle.flat_model.specs.Assignment.{Assignment, IsOfKind}
 use Rattle.flat_model.specs.Given.{Solves}
-use Rattle.flat_model.specs.Order.{IsUnused, IsOrder}
+use Rattle.flat_model.specs.Order.{IsOrder}
 use Rattle.flat_model.specs.Runnable.{IsRunnable}
-use Rattle.flat_model.specs.Setting.{Setting, class_of_name, class_of_equation, class_ticks}
-use Rattle.flat_model.specs.Uses.{Use, SiteReads, IsUnreached, used_equations, reached_names}
+use Rattle.flat_model.specs.Setting.{Setting, class_of_name}
+use Rattle.flat_model.specs.Uses.{Use, SiteReads, used_equations, reached_names}
 use Rattle.flat_model.proofs.Links.{asked_earlier}
 use Rattle.moment_theory.specs.Free.{AsksLastIn, IsReachedBy, AreFree, AreSameUses}
 use Rattle.moment_theory.proofs.Ordered.{IsFreeUse}
@@ -24,7 +22,7 @@ use Rattle.moment_theory.proofs.Meeting.{IsValued, AreWhole}
 use Rattle.moment_theory.proofs.Members.{IsMember, contains_member, member_contains, reached_member, member_reached}
 use Rattle.moment_theory.proofs.NoSolution.{free_of}
 use Rattle.moment_theory.proofs.Running.{IsReady}
-use Rattle.moment_theory.proofs.Solutions.{IsSideOnce, one_solution}
+use Rattle.moment_theory.proofs.Solutions.{one_solution}
 
 -- a number is in a list or not
 contains_or : (xs : List ℕ) (x : ℕ) → Contains xs x ⊎ (Contains xs x → ⊥)

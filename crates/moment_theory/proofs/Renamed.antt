@@ -1,16 +1,14 @@
 -- An expression with other numbers for its names means the same, seen through the renaming.
-use Rattle.std.proofs.Common.{◌≡◌, refl, ap, ap₂, ◌∙◌, sym, subst, ℕ, ◌+◌, List, [], ◌∷◌, map, Option, Some, None}
-use Rattle.sync_values.specs.Arithmetic.{fitted}
-use Rattle.sync_values.specs.declared.value.Value.TheVariants as value
+use Rattle.std.proofs.Common.{◌≡◌, refl, ap, ap₂, ◌∙◌, sym, subst, ℕ, List, [], ◌∷◌, map}
 use Rattle.flat_model.specs.declared.expression.Expr.{Expr}
 use Rattle.flat_model.specs.declared.clock.ClockExpr.{ClockExpr}
 use Rattle.flat_model.specs.declared.clock.ClockExpr.TheOpen.{Expr-F}
 use Rattle.flat_model.specs.declared.clock.ClockExpr.TheViews.{roll-Expr}
-use Rattle.flat_model.specs.declared.clock.ClockExpr.TheFolds.{fold-Expr, ind-Expr, fold-roll-Expr, map-Expr}
-use Rattle.flat_model.specs.Operators.{Answer, Is, chain, negated, inverted, relation, chosen, read, settled}
+use Rattle.flat_model.specs.declared.clock.ClockExpr.TheFolds.{ind-Expr, fold-roll-Expr, map-Expr}
+use Rattle.flat_model.specs.Operators.{chain, negated, inverted, relation, chosen}
 use Rattle.flat_model.specs.Functions.{called}
-use Rattle.flat_model.specs.Views.{View, Views, before}
-use Rattle.flat_model.specs.Meaning.{Meaning, meaning_of_level, seen_by, whole_of, value_of}
+use Rattle.flat_model.specs.Views.{Views, before}
+use Rattle.flat_model.specs.Meaning.{Meaning, meaning_of_level, seen_by, value_of}
 use Rattle.moment_theory.specs.Renamed.{renamed_level, renamed, views_through}
 use Rattle.flat_model.proofs.Above.{value_of_roll}
 

@@ -1,29 +1,23 @@
 -- Rows at a moment, and what a use gives over two of them.
-use Rattle.std.proofs.Common.{◌≡◌, ◌≢◌, refl, ap, ◌∙◌, sym, subst, ℕ, ◌+◌, ◌-◌, ◌<◌, ◌≤◌, ◌==◌, ◌&&◌, Bool, true, false, List, Option, Some, None, IsSome, arith, slice_get, if◌then◌else◌, ◌⊎◌, inl, inr, eq-eqb, ne_eqb}
+use Rattle.std.proofs.Common.{◌≡◌, ◌≢◌, refl, ap, ◌∙◌, sym, subst, ℕ, ◌<◌, true, Option, Some, None, IsSome, arith, if◌then◌else◌, inl, inr, eq-eqb, ne_eqb}
 use Rattle.std.proofs.lemmas.Bool.{cases_eq, false≢true}
 use Rattle.sync_values.specs.declared.value.Value.{Value}
 use Rattle.sync_values.specs.declared.value.Value.TheVariants as value
 use Rattle.flat_model.specs.declared.clock.Clock.{Clock}
 use Rattle.flat_model.specs.declared.clock.Clock.TheVariants.{Periodic, Event}
-use Rattle.flat_model.specs.declared.equation.Equation.{Equation}
-use Rattle.flat_model.specs.declared.equation.Equation.TheVariants.{Valued, Clocks}
 use Rattle.flat_model.specs.declared.expression.Expr.{Expr}
-use Rattle.flat_model.specs.declared.model.FlatName.{FlatName}
 use Rattle.flat_model.specs.Operators.{Is}
-use Rattle.flat_model.specs.Views.{Views}
 use Rattle.flat_model.specs.Meaning.{value_of}
-use Rattle.flat_model.specs.Assignment.{Assignment, IsOfKind}
-use Rattle.flat_model.specs.Occurrences.{bare_count, held_count, converted_count, sample_count}
+use Rattle.flat_model.specs.Assignment.{Assignment}
+use Rattle.flat_model.specs.Occurrences.{converted_count, sample_count}
 use Rattle.flat_model.specs.Setting.{Setting, class_of_name, class_of_equation, clock_of, site_answer, class_ticks, name_ticks, views_at}
-use Rattle.flat_model.specs.Meets.{HasOneValue}
-use Rattle.flat_model.specs.Uses.{Use, ClassesMeet, ReadsIn, EquationReads, SiteReads}
-use Rattle.flat_model.specs.Given.{Row, with_row, with_value, IsKnownOf, IsKnown, IsKnownToTick, HasLastValue, HasReadIn, HasReadsBut, Solves, IsOnlySolution, CanUse}
+use Rattle.flat_model.specs.Uses.{ReadsIn, SiteReads}
+use Rattle.flat_model.specs.Given.{Row, with_row, with_value, IsKnownOf, IsKnown, IsKnownToTick, HasLastValue, HasReadIn}
 use Rattle.flat_model.proofs.Dependence.{AgreeOn, value_rests}
 use Rattle.flat_model.proofs.Agreement.{SameBefore, SameNow, views_agree}
 use Rattle.flat_model.proofs.OneSolution.{AreSitesUnclocked}
-use Rattle.moment_theory.specs.Free.{AsksLastIn, IsReachedBy}
+use Rattle.moment_theory.specs.Free.{AsksLastIn}
 use Rattle.flat_model.specs.Clocks.{AreOnOneAxis}
-use Rattle.moment_theory.proofs.Ordered.{IsFreeSide, IsFreeUse}
 use Rattle.flat_model.proofs.Above.{IsBelow}
 use Rattle.flat_model.proofs.Sites.{SameSiteOf, class_ticks_by_site, known_same, still_known, meet_where_tick, not_yet}
 
@@ -125,7 +119,7 @@ module _ (s : Setting) (unclocked : AreSitesUnclocked s) (A B : Assignment) (m :
           let other : z ≢ x = λ is. up.own (subst (AsksLastIn e) is asks) in (
             sym here ∙ class_ticks_by_site s A B (class_of_name s z) m same site ∙ there,
             λ ticks. let h = has (here ∙ ticks) in
-            value_other A m x v z other ∙ below_some (A z m) (B z m) (up.reads z other h.1) h.0 ∙ sym (value_other B m x v z other),
+                value_other A m x v z other ∙ below_some (A z m) (B z m) (up.reads z other h.1) h.0 ∙ sym (value_other B m x v z other),
           )
 
       some_of_last : (z : ℕ) → name_ticks s A z m ≡ true → HasLastValue s A m z → IsSome (A z m)

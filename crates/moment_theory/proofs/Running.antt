@@ -1,8 +1,7 @@
 -- From one moment to the next: what meets the model up to a moment, and is alone in that, goes on, or nothing does.
-use Rattle.std.proofs.Common.{◌≡◌, ◌≢◌, refl, ap, ◌∙◌, sym, subst, ℕ, suc, ◌<◌, ◌≤◌, List, [], ◌∷◌, Option, Some, None, slice_get, ◌⊎◌, inl, inr, arith}
+use Rattle.std.proofs.Common.{◌≡◌, ◌≢◌, ap, ◌∙◌, sym, subst, ℕ, suc, ◌≤◌, List, [], ◌∷◌, Some, slice_get, inl, inr, arith}
 use Rattle.std.proofs.lemmas.Bool.{cases_lt}
 use Rattle.std.proofs.lemmas.Option.{same_Some}
-use Rattle.sync_values.specs.declared.value.Value.{Value}
 use Rattle.flat_model.specs.declared.clock.Moment.{Moment}
 use Rattle.flat_model.specs.declared.model.FlatName.{FlatName}
 use Rattle.flat_model.specs.declared.model.NameKind.TheVariants as kind
@@ -11,9 +10,8 @@ use Rattle.flat_model.specs.Assignment.{Assignment}
 use Rattle.flat_model.specs.Setting.{Setting}
 use Rattle.flat_model.specs.Meets.{MeetsAt, MeetsBefore, Meets}
 use Rattle.flat_model.specs.Uses.{Use}
-use Rattle.flat_model.specs.Given.{Row, with_row, IsGiven}
+use Rattle.flat_model.specs.Given.{Row, with_row}
 use Rattle.flat_model.specs.Faults.{SomethingFails}
-use Rattle.flat_model.proofs.Agreement.{SameBefore, SameUpTo}
 use Rattle.flat_model.proofs.OneSolution.{AreSitesUnclocked}
 use Rattle.moment_theory.specs.Going.{IsOnlyBefore}
 use Rattle.moment_theory.specs.Free.{IsReachedBy}

@@ -1,5 +1,5 @@
 -- A use gives, and fails, alike over rows that agree on what it needs.
-use Rattle.std.proofs.Common.{◌≡◌, ◌≢◌, refl, ap, ap₂, ◌∙◌, sym, subst, ℕ, zero, suc, ◌+◌, ◌<◌, ◌≤◌, ◌==◌, ◌||◌, Bool, true, false, List, [], ◌∷◌, map, Contains, Option, Some, None, IsSome, slice_get, ◌⊎◌, inl, inr, arith}
+use Rattle.std.proofs.Common.{◌≡◌, refl, ap, ◌∙◌, sym, subst, ℕ, ◌+◌, ◌<◌, ◌≤◌, ◌||◌, Bool, true, false, List, [], ◌∷◌, map, Contains, Some, None, slice_get, ◌⊎◌, inl, inr, arith}
 use Rattle.std.specs.List.{list_any, list_all}
 use Rattle.std.proofs.lemmas.Bool.{false≢true, true≢false, and_parts}
 use Rattle.std.proofs.lemmas.Option.{same_Some}
@@ -21,7 +21,7 @@ use Rattle.flat_model.specs.Occurrences.{is_sum, bare_count, held_count, convert
 use Rattle.flat_model.specs.Parts.{Way, way_through, way_to, reaches_through, parts_beside, kind_of}
 use Rattle.flat_model.specs.Runnable.{IsRunnable}
 use Rattle.flat_model.specs.Setting.{Setting, class_of_name, class_of_equation, clock_of, class_ticks, name_ticks, views_at}
-use Rattle.flat_model.specs.Uses.{Use, ReadsIn, Reads, AreUses, SiteReads, ClassesMeet}
+use Rattle.flat_model.specs.Uses.{Use, ReadsIn, Reads, AreUses, SiteReads}
 use Rattle.flat_model.proofs.Links.{asked_bare, asked_earlier}
 use Rattle.flat_model.proofs.Sites.{class_ticks_by_site, meet_where_tick}
 use Rattle.moment_theory.specs.Free.{AsksLastIn, AsksClass, IsReachedBy, IsFree, AreFree}
@@ -33,13 +33,13 @@ use Rattle.moment_theory.proofs.Apart.{gives_same}
 use Rattle.moment_theory.proofs.Facts.{Facts, UseFacts, facts_of_use, free_use, free_uses, once_left, once_right}
 use Rattle.moment_theory.proofs.FromRunnable.{facts_of}
 use Rattle.moment_theory.proofs.GivenByOrder.{inputs_sound}
-use Rattle.moment_theory.proofs.Members.{IsMember, member_contains}
+use Rattle.moment_theory.proofs.Members.{member_contains}
 use Rattle.moment_theory.proofs.Once.{one_use}
 use Rattle.moment_theory.proofs.Ordered.{IsFreeUse}
 use Rattle.moment_theory.proofs.PartsRest.{SameBut, parts_rest}
 use Rattle.moment_theory.proofs.Rows.{row_now, row_before, below_same, unclocked_at_first}
 use Rattle.moment_theory.proofs.Stands.{stands_bare}
-use Rattle.moment_theory.proofs.Taking.{over, same_over, below_over, taken_sound}
+use Rattle.moment_theory.proofs.Taking.{taken_sound}
 use Rattle.moment_theory.proofs.Transfer as transfer
 use Rattle.moment_theory.proofs.Transfer.{can_up, solved_down}
 use Rattle.moment_theory.proofs.Unknown.{site_same}

@@ -1,27 +1,23 @@
 -- The laws of a moment and of a run, for a setting that is runnable and ordered.
-use Rattle.std.proofs.Common.{◌≡◌, ◌≢◌, refl, ap, ap₂, ◌∙◌, sym, subst, ℕ, zero, suc, ◌+◌, ◌<◌, ◌≤◌, Bool, List, [], ◌∷◌, length, Contains, Option, Some, None, slice_get, ◌⊎◌, inl, inr, arith}
+use Rattle.std.proofs.Common.{◌≡◌, refl, ap, ap₂, ◌∙◌, sym, subst, ℕ, zero, suc, ◌<◌, ◌≤◌, List, [], ◌∷◌, length, Some, slice_get, inl, inr, arith}
 use Rattle.std.proofs.lemmas.Bool.{cases_lt}
 use Rattle.std.proofs.lemmas.Option.{same_Some}
 use Rattle.rational_time.specs.declared.ratio.Ratio.{Ratio}
-use Rattle.sync_values.specs.declared.value.Value.{Value}
 use Rattle.sync_values.specs.declared.value.Fail.{Fail}
 use Rattle.flat_model.specs.declared.clock.Moment.{Moment}
 use Rattle.flat_model.specs.declared.clock.Moment.TheVariants.{Initial, At}
-use Rattle.flat_model.specs.declared.equation.Equation.{Equation}
 use Rattle.flat_model.specs.declared.fault.FaultPlace.{FaultPlace}
 use Rattle.flat_model.specs.declared.fault.FaultPlace.TheVariants as place
-use Rattle.flat_model.specs.declared.model.FlatName.{FlatName}
 use Rattle.flat_model.specs.Operators.{Answer, Fails}
 use Rattle.flat_model.specs.Meaning.{seen_by}
 use Rattle.flat_model.specs.Parts.{kind_of, parts_beside}
 use Rattle.flat_model.specs.Assignment.{Assignment}
 use Rattle.flat_model.specs.Faults.{SiteFails, EquationFails, SomethingFails, IsFirstToFail, IsFirstFault}
-use Rattle.flat_model.specs.Given.{Row, with_row, IsGiven, CanUse, IsOnlySolution}
+use Rattle.flat_model.specs.Given.{Row, with_row, IsGiven}
 use Rattle.flat_model.specs.Meets.{Meets, MeetsBefore}
 use Rattle.flat_model.specs.Moments.{moment_at}
 use Rattle.flat_model.specs.Setting.{Setting, class_of_equation, views_at}
 use Rattle.flat_model.specs.Uses.{Use}
-use Rattle.flat_model.proofs.Agreement.{SameUpTo}
 use Rattle.flat_model.proofs.OneAnswer.{uses_once, given_once}
 use Rattle.moment_theory.specs.Free.{AreFree, AreSameUses, IsOrdered}
 use Rattle.moment_theory.specs.Going.{AgreeBefore, IsOnlyBefore, HasRun, SitesHold, AllSolved}
@@ -31,7 +27,7 @@ use Rattle.moment_theory.proofs.Facts.{same_members}
 use Rattle.moment_theory.proofs.FromRunnable.{facts_of}
 use Rattle.moment_theory.proofs.GivenByOrder.{AreSameMembers, taken_given}
 use Rattle.moment_theory.proofs.Meeting.{HasTableValues}
-use Rattle.moment_theory.proofs.Members.{IsMember, member_contains}
+use Rattle.moment_theory.proofs.Members.{member_contains}
 use Rattle.moment_theory.proofs.MetTaken.{AreSolvedOnce, met_run}
 use Rattle.moment_theory.proofs.Moved.{rows_up_to, first_moved, fails_moved, given_moved}
 use Rattle.moment_theory.proofs.Once.{one_use}

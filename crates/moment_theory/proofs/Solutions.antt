@@ -1,26 +1,23 @@
 -- No use has two solutions at a moment at which it counts.
-use Rattle.std.proofs.Common.{◌≡◌, ◌≢◌, refl, ap, ◌∙◌, sym, subst, ℕ, zero, suc, ◌+◌, ◌-◌, ◌<◌, ◌≤◌, true, Option, Some, None, is_none, arith, ◌⊎◌, inl, inr}
+use Rattle.std.proofs.Common.{◌≡◌, ◌≢◌, ap, ◌∙◌, sym, subst, ℕ, suc, ◌-◌, ◌<◌, ◌≤◌, true, Option, Some, None, arith, inl, inr}
 use Rattle.sync_values.specs.declared.value.Value.{Value}
 use Rattle.flat_model.specs.declared.equation.Equation.TheVariants.{Valued}
 use Rattle.flat_model.specs.declared.expression.Expr.{Expr}
-use Rattle.flat_model.specs.Occurrences.{bare_count, held_count, converted_count, is_reached}
-use Rattle.flat_model.specs.Operators.{Answer, Is}
-use Rattle.flat_model.specs.Views.{View, Views}
+use Rattle.flat_model.specs.Occurrences.{bare_count, is_reached}
+use Rattle.flat_model.specs.Operators.{Is}
 use Rattle.flat_model.specs.Meaning.{value_of}
 use Rattle.flat_model.specs.Assignment.{Assignment}
-use Rattle.flat_model.specs.Setting.{Setting, class_of_name, class_of_equation, clock_of, start_of, class_ticks, name_ticks, interval_at, view_at, views_at}
+use Rattle.flat_model.specs.Setting.{Setting, class_of_name, class_of_equation, class_ticks, name_ticks, views_at}
 use Rattle.flat_model.specs.Given.{with_value, Solves}
-use Rattle.flat_model.specs.Uses.{Use, IsSolvableFor, SiteReads}
-use Rattle.flat_model.proofs.Agreement.{SameBefore, SameUpTo, class_ticks_same, tick_before_same, previous_same, last_same, view_same}
+use Rattle.flat_model.specs.Uses.{IsSolvableFor, SiteReads}
+use Rattle.flat_model.proofs.Agreement.{SameBefore}
 use Rattle.flat_model.proofs.OneSolution.{AreSitesUnclocked}
 use Rattle.moment_theory.specs.Free.{AsksLastIn}
-use Rattle.flat_model.specs.Asks.{Asking, OfNow, OfLast, OfPrevious, OfFirst, OfInterval, asked}
-use Rattle.flat_model.proofs.Asks.{SameAt}
-use Rattle.flat_model.proofs.Links.{asked_bare, asked_last}
+use Rattle.flat_model.specs.Asks.{Asking, asked}
+use Rattle.flat_model.proofs.Links.{asked_bare}
 use Rattle.moment_theory.proofs.PartsRest.{SameBut, same_without}
 use Rattle.moment_theory.proofs.Alike.{same_but}
 use Rattle.moment_theory.proofs.Alone.{is_formed, alone}
-use Rattle.moment_theory.proofs.Groups.{interval_same}
 use Rattle.moment_theory.proofs.Rows.{value_now, value_other, value_before, unclocked_at_first}
 use Rattle.flat_model.proofs.Sites.{class_ticks_by_site}
 use Rattle.moment_theory.proofs.Stands.{stands_bare}

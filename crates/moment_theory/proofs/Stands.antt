@@ -1,5 +1,5 @@
 -- A name that is reached in an expression stands bare in it.
-use Rattle.std.proofs.Common.{◌≡◌, ◌⊎◌, inl, inr, refl, ap, ◌∙◌, sym, subst, ℕ, ◌+◌, ◌<◌, ◌≤◌, ◌==◌, Bool, true, false, ◌&&◌, List, [], ◌∷◌, Option, map, sum, arith}
+use Rattle.std.proofs.Common.{◌≡◌, inl, inr, ◌∙◌, sym, subst, ℕ, ◌≤◌, Bool, true, List, [], ◌∷◌, map, sum, arith}
 use Rattle.std.proofs.lemmas.Bool.{and_parts, or_cases}
 use Rattle.std.proofs.lemmas.List.Sums.{sum_by-cons}
 use Rattle.std.specs.List.{list_any, list_all}
@@ -7,8 +7,8 @@ use Rattle.flat_model.specs.declared.expression.Expr.{Expr}
 use Rattle.flat_model.specs.declared.clock.ClockExpr.{ClockExpr}
 use Rattle.flat_model.specs.declared.clock.ClockExpr.TheOpen.{Expr-F}
 use Rattle.flat_model.specs.declared.clock.ClockExpr.TheViews.{roll-Expr}
-use Rattle.flat_model.specs.declared.clock.ClockExpr.TheFolds.{fold-Expr, ind-Expr, fold-roll-Expr, map-Expr}
-use Rattle.flat_model.specs.Occurrences.{one_if, is_sum, bare_in_level, bare_count, held_count, converted_count, reached_in_level, is_reached}
+use Rattle.flat_model.specs.declared.clock.ClockExpr.TheFolds.{ind-Expr, fold-roll-Expr, map-Expr}
+use Rattle.flat_model.specs.Occurrences.{one_if, is_sum, bare_in_level, bare_count, reached_in_level, is_reached}
 
 abbrev Stands : ℕ → Expr → Type 0
 Stands x e = is_reached x e ≡ true → 1 ≤ bare_count x e

@@ -1,5 +1,5 @@
 -- A sum, a difference, a minus and a `not` have a value for one operand alone.
-use Rattle.std.proofs.Common.{◌≡◌, refl, ap, ap₂, ◌∙◌, sym, subst, ℕ, Bool, true, false, not, if◌then◌else◌, List, [], ◌∷◌, ℤ, pos, negsuc, ◌+ℤ◌, ◌-ℤ◌, neg_ℤ, nat_lt, ◌^◌, Result, Ok, Err}
+use Rattle.std.proofs.Common.{◌≡◌, refl, ap, ◌∙◌, sym, Bool, true, false, not, if◌then◌else◌, List, [], ◌∷◌, ℤ, pos, negsuc, ◌+ℤ◌, ◌-ℤ◌, neg_ℤ, nat_lt, ◌^◌, Ok, Err}
 use Rattle.std.proofs.Math.IntN.{+ℤ-neg_ℤ_cancel, -ℤ-+ℤ_cancel, +ℤ_comm, neg_ℤ-neg_ℤ}
 use Rattle.std.proofs.lemmas.Bool.{false≢true}
 use Rattle.sync_values.specs.Arithmetic.{fitted}
@@ -9,7 +9,7 @@ use Rattle.sync_values.specs.declared.value.Fail.{Fail}
 use Rattle.sync_values.specs.declared.value.Fail.TheVariants.{TooLarge}
 use Rattle.sync_values.specs.declared.value.ChainOp.{ChainOp}
 use Rattle.sync_values.specs.declared.value.ChainOp.TheVariants.{Plus, Minus, Times, Over, And, Or}
-use Rattle.flat_model.specs.Operators.{Answer, Is, Fails, Absent, settled, applied, joined, chained, negated, inverted}
+use Rattle.flat_model.specs.Operators.{Answer, Is, Fails, Absent, settled, joined, chained, negated, inverted}
 use Rattle.flat_model.specs.Occurrences.{is_sum}
 
 fails_is : (k : Fail) (v : Value) → Fails k ≡ Is v → ⊥

@@ -1,23 +1,21 @@
 -- Uses taken in an order that is free give exactly the given values.
-use Rattle.std.proofs.Common.{◌≡◌, ◌≢◌, refl, ap, ◌∙◌, sym, subst, ℕ, zero, suc, ◌+◌, ◌-◌, ◌<◌, ◌≤◌, ◌==◌, Bool, true, false, List, [], ◌∷◌, length, Option, Some, None, IsSome, arith, slice_get, Contains, if◌then◌else◌, ◌⊎◌, inl, inr, eq-eqb, ne_eqb}
+use Rattle.std.proofs.Common.{◌≡◌, ◌≢◌, refl, ap, ◌∙◌, sym, subst, ℕ, List, [], ◌∷◌, Option, Some, None, IsSome, Contains, if◌then◌else◌, inl, inr, eq-eqb, ne_eqb}
 use Rattle.std.proofs.lemmas.Bool.{cases_eq, false≢true}
-use Rattle.std.proofs.lemmas.Option.{same_Some, none-some}
+use Rattle.std.proofs.lemmas.Option.{same_Some}
 use Rattle.sync_values.specs.declared.value.Value.{Value}
-use Rattle.flat_model.specs.declared.clock.Moment.{Moment}
 use Rattle.flat_model.specs.declared.equation.Equation.{Equation}
 use Rattle.flat_model.specs.declared.model.FlatName.{FlatName}
-use Rattle.flat_model.specs.Moments.{moment_at, table_value}
 use Rattle.flat_model.specs.Assignment.{Assignment, IsOfKind}
-use Rattle.flat_model.specs.Setting.{Setting, class_of_name, class_of_equation, class_ticks}
-use Rattle.flat_model.specs.Uses.{Use, SiteReads}
-use Rattle.flat_model.specs.Given.{Row, with_row, IsKnownToTick, CanUse, IsOnlySolution, IsClosed, IsGiven, Solves}
+use Rattle.flat_model.specs.Setting.{Setting, class_of_name, class_of_equation}
+use Rattle.flat_model.specs.Uses.{Use}
+use Rattle.flat_model.specs.Given.{Row, with_row, IsKnownToTick, CanUse, IsOnlySolution, IsClosed, Solves}
 use Rattle.flat_model.proofs.Agreement.{SameBefore}
 use Rattle.flat_model.proofs.OneSolution.{AreSitesUnclocked}
 use Rattle.moment_theory.specs.Free.{IsReachedBy}
 use Rattle.moment_theory.proofs.Ordered.{IsFreeUse, AreFreeUses}
-use Rattle.moment_theory.specs.Taken.{put, Gives, IsTaken, AreTaken, AreInputs}
+use Rattle.moment_theory.specs.Taken.{put, Gives, IsTaken, AreTaken}
 use Rattle.flat_model.proofs.Above.{IsBelow}
-use Rattle.moment_theory.proofs.Rows.{row_now, row_before, below_refl, below_same}
+use Rattle.moment_theory.proofs.Rows.{row_now, row_before, below_same}
 use Rattle.moment_theory.proofs.Transfer.{IsSound, Needs, needs_earlier, known_up, can_up, only_up}
 use Rattle.moment_theory.proofs.Members.{IsMember}
 

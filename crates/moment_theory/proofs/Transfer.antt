@@ -1,25 +1,23 @@
 -- What a use gives stays where what decides of it stays.
-use Rattle.std.proofs.Common.{◌≡◌, ◌≢◌, refl, ap, ◌∙◌, sym, subst, ℕ, ◌+◌, ◌-◌, ◌<◌, ◌≤◌, ◌==◌, ◌&&◌, Bool, true, false, List, Option, Some, None, IsSome, arith, slice_get, ◌⊎◌, inl, inr}
+use Rattle.std.proofs.Common.{◌≡◌, ◌≢◌, refl, ◌∙◌, sym, subst, ℕ, List, Option, Some, IsSome, slice_get, ◌⊎◌, inl, inr}
 use Rattle.std.proofs.lemmas.Option.{same_Some}
 use Rattle.sync_values.specs.declared.value.Value.{Value}
 use Rattle.flat_model.specs.declared.equation.Equation.{Equation}
-use Rattle.flat_model.specs.declared.equation.Equation.TheVariants.{Valued, Clocks}
+use Rattle.flat_model.specs.declared.equation.Equation.TheVariants.{Valued}
 use Rattle.flat_model.specs.declared.expression.Expr.{Expr}
 use Rattle.flat_model.specs.declared.model.FlatName.{FlatName}
-use Rattle.flat_model.specs.Operators.{Is}
 use Rattle.flat_model.specs.Meaning.{value_of}
-use Rattle.flat_model.specs.Assignment.{Assignment, IsOfKind}
-use Rattle.flat_model.specs.Setting.{Setting, class_of_name, class_of_equation, class_ticks, views_at}
-use Rattle.flat_model.specs.Meets.{HasOneValue}
+use Rattle.flat_model.specs.Assignment.{Assignment}
+use Rattle.flat_model.specs.Setting.{Setting, class_of_name, class_of_equation, views_at}
 use Rattle.flat_model.specs.Uses.{Use, ReadsIn, SiteReads}
-use Rattle.flat_model.specs.Given.{IsKnown, IsKnownToTick, HasReadIn, HasReadsBut, Solves, IsOnlySolution, CanUse, with_value}
+use Rattle.flat_model.specs.Given.{IsKnownToTick, HasReadsBut, Solves, IsOnlySolution, CanUse, with_value}
 use Rattle.flat_model.proofs.Agreement.{SameBefore}
 use Rattle.flat_model.proofs.OneSolution.{AreSitesUnclocked}
 use Rattle.moment_theory.specs.Free.{AsksLastIn, IsReachedBy}
 use Rattle.moment_theory.proofs.Ordered.{IsFreeSide, IsFreeUse}
 use Rattle.flat_model.proofs.Above.{IsBelow}
-use Rattle.flat_model.proofs.Sites.{SameSiteOf, class_ticks_by_site, known_same, still_known}
-use Rattle.moment_theory.proofs.Rows.{IsSideUp, read_up, side_same, below_same}
+use Rattle.flat_model.proofs.Sites.{class_ticks_by_site, known_same, still_known}
+use Rattle.moment_theory.proofs.Rows.{IsSideUp, read_up, side_same}
 
 -- each value at m is of a name that is known to tick
 abbrev pub IsSound : Setting → Assignment → ℕ → Type 0

@@ -1,5 +1,5 @@
 -- Uses of names on which the conditions of sites rest, and no clock, are pure.
-use Rattle.std.proofs.Common.{◌≡◌, ◌≢◌, refl, ap, ◌∙◌, sym, subst, ℕ, ◌+◌, ◌<◌, ◌≤◌, Bool, true, false, List, Contains, Option, Some, None, slice_get, ◌⊎◌, inl, inr, arith}
+use Rattle.std.proofs.Common.{◌≡◌, ap, ◌∙◌, sym, subst, ℕ, ◌<◌, Bool, true, List, Contains, Option, Some, None, slice_get, ◌⊎◌, inl, inr, arith}
 use Rattle.std.proofs.lemmas.Bool.{false≢true}
 use Rattle.std.proofs.lemmas.Option.{same_Some}
 use Rattle.flat_model.specs.declared.clock.Clock.{Clock}
@@ -7,7 +7,7 @@ use Rattle.flat_model.specs.declared.equation.Equation.{Equation}
 use Rattle.flat_model.specs.declared.equation.Equation.TheVariants.{Valued}
 use Rattle.flat_model.specs.declared.expression.Expr.{Expr}
 use Rattle.flat_model.specs.Clocks.{AreOnOneAxis}
-use Rattle.flat_model.specs.Occurrences.{bare_count, held_count, converted_count}
+use Rattle.flat_model.specs.Occurrences.{bare_count, converted_count}
 use Rattle.flat_model.specs.Runnable.{IsSideClocked, IsRunnable}
 use Rattle.flat_model.specs.Setting.{Setting, class_of_name, class_of_equation, clock_of}
 use Rattle.flat_model.specs.Tables.{IsInput}

@@ -1,7 +1,6 @@
 -- A clock that ticks is known to tick, and a site whose reads are the same answers the same.
-use Rattle.std.proofs.Common.{◌≡◌, refl, ap, ◌∙◌, sym, subst, ℕ, zero, suc, ◌+◌, ◌-◌, ◌%◌, ◌==◌, ◌&&◌, nat_le, Bool, true, false, Option, Some, None, slice_get}
+use Rattle.std.proofs.Common.{◌≡◌, refl, sym, ℕ, zero, suc, Bool, true, false, Option, Some, None, slice_get}
 use Rattle.std.proofs.lemmas.Bool.{false≢true, and_parts}
-use Rattle.sync_values.specs.declared.value.Value.{Value}
 use Rattle.sync_values.specs.declared.value.Value.TheVariants as value
 use Rattle.flat_model.specs.declared.clock.Clock.{Clock}
 use Rattle.flat_model.specs.declared.clock.Clock.TheVariants.{Periodic, Event}
@@ -10,7 +9,7 @@ use Rattle.flat_model.specs.declared.clock.Moment.TheVariants.{Initial, At}
 use Rattle.flat_model.specs.Operators.{Answer, Is, Fails, Absent}
 use Rattle.flat_model.specs.Moments.{moment_at}
 use Rattle.flat_model.specs.Assignment.{Assignment}
-use Rattle.flat_model.specs.Setting.{Setting, clock_of, site_answer, is_true, rises, risings_before, clock_ticks, class_ticks, ticks_in}
+use Rattle.flat_model.specs.Setting.{Setting, site_answer, is_true, rises, clock_ticks, class_ticks, ticks_in}
 use Rattle.flat_model.specs.Given.{IsKnownOf, IsKnown}
 use Rattle.flat_model.proofs.OneSolution.{AreSitesUnclocked}
 use Rattle.flat_model.proofs.Asks.{above_both}

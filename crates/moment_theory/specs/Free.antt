@@ -3,10 +3,10 @@ use Rattle.std.specs.Prelude.{◌≡◌, ℕ, ◌<◌, ◌⊎◌, List, [], ◌�
 use Rattle.flat_model.specs.declared.equation.Equation.{Equation}
 use Rattle.flat_model.specs.declared.equation.Equation.TheVariants.{Valued, Clocks}
 use Rattle.flat_model.specs.declared.expression.Expr.{Expr}
-use Rattle.flat_model.specs.Occurrences.{bare_count, held_count, converted_count}
+use Rattle.flat_model.specs.Occurrences.{held_count, converted_count}
 use Rattle.flat_model.specs.Order.{IsOrder}
 use Rattle.flat_model.specs.Runnable.{IsRunnable}
-use Rattle.flat_model.specs.Setting.{Setting, class_of_name, class_of_equation, clock_of}
+use Rattle.flat_model.specs.Setting.{Setting, class_of_name, class_of_equation}
 use Rattle.flat_model.specs.Uses.{Use, Reads, SiteReads}
 
 -- one of these uses reaches the name

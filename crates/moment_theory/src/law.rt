@@ -1,6 +1,13 @@
 ghost use Rattle.moment_theory.specs.PieceLaws.{
-    AlikeLaw, DivisionLaw, GroupLaw, GroupTickLaw, PartitionsLaw, PiecesLaw, RenamedLaw, SoundLaw,
-    UnheldLaw,
+  AlikeLaw,
+  DivisionLaw,
+  GroupLaw,
+  GroupTickLaw,
+  PartitionsLaw,
+  PiecesLaw,
+  RenamedLaw,
+  SoundLaw,
+  UnheldLaw,
 };
 ghost use Rattle.moment_theory.specs.Laws.{TakenLaw, OrderLaw, NextLaw, StopLaw, FaultLaw, MetLaw, OnlyLaw, OneFaultLaw, WholeLaw, OneRunLaw};
 
