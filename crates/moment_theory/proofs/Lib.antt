@@ -18,6 +18,7 @@ pub mod NoSolution
 pub mod Ordered
 pub mod PartsRest
 pub mod Renamed
+pub mod RenamedWays
 pub mod Rows
 pub mod Running
 pub mod Unheld

@@ -23,7 +23,7 @@ way_to_roll : (x : ℕ) (y : Expr-F ClockExpr Expr) → way_to x (roll-Expr y) �
 unfolding way_to
 way_to_roll x y = fold-roll-Expr (Unit {0}) Way (λ _. tt) (way_through x) y
 
-seen_append : (v : Views) (xs ys : List Meaning) → seen_by v (xs ++ ys) ≡ seen_by v xs ++ seen_by v ys
+pub seen_append : (v : Views) (xs ys : List Meaning) → seen_by v (xs ++ ys) ≡ seen_by v xs ++ seen_by v ys
 seen_append v [] ys = refl
 seen_append v (x ∷ xs) ys = ap (λ r. x v ∷ r) (seen_append v xs ys)
 

@@ -1,5 +1,8 @@
 -- An expression with other numbers for its names means the same, seen through the renaming.
-use Rattle.std.proofs.Common.{◌≡◌, refl, ap, ap₂, ◌∙◌, sym, subst, ℕ, List, [], ◌∷◌, map}
+use Rattle.std.proofs.Common.{◌↔◌, ◌≡◌, refl, ap, ap₂, ◌∙◌, sym, subst, ℕ, List, [], ◌∷◌, map}
+use Rattle.flat_model.specs.declared.equation.Equation.{Equation}
+use Rattle.flat_model.specs.declared.equation.Equation.TheVariants.{Valued, Clocks}
+use Rattle.flat_model.specs.Meets.{HasOneValue}
 use Rattle.flat_model.specs.declared.expression.Expr.{Expr}
 use Rattle.flat_model.specs.declared.clock.ClockExpr.{ClockExpr}
 use Rattle.flat_model.specs.declared.clock.ClockExpr.TheOpen.{Expr-F}
@@ -9,10 +12,10 @@ use Rattle.flat_model.specs.Operators.{chain, negated, inverted, relation, chose
 use Rattle.flat_model.specs.Functions.{called}
 use Rattle.flat_model.specs.Views.{Views, before}
 use Rattle.flat_model.specs.Meaning.{Meaning, meaning_of_level, seen_by, value_of}
-use Rattle.moment_theory.specs.Renamed.{renamed_level, renamed, views_through}
+use Rattle.moment_theory.specs.Renamed.{renamed_level, renamed, renamed_equation, views_through}
 use Rattle.flat_model.proofs.Above.{value_of_roll}
 
-renamed_roll : (place : ℕ → ℕ) (y : Expr-F ClockExpr Expr) → renamed place (roll-Expr y) ≡ roll-Expr (renamed_level place (map-Expr ClockExpr Expr (Unit {0}) Expr (λ _. tt) (renamed place) y))
+pub renamed_roll : (place : ℕ → ℕ) (y : Expr-F ClockExpr Expr) → renamed place (roll-Expr y) ≡ roll-Expr (renamed_level place (map-Expr ClockExpr Expr (Unit {0}) Expr (λ _. tt) (renamed place) y))
 unfolding renamed
 renamed_roll place y = fold-roll-Expr (Unit {0}) Expr (λ _. tt) (λ level. roll-Expr (renamed_level place level)) y
 
@@ -56,3 +59,11 @@ module _ (place : ℕ → ℕ) where
   -- the value of a renamed expression is that of the expression, seen through the renaming
   pub value_renamed : (e : Expr) (views : Views) → value_of (renamed place e) views ≡ value_of e (views_through place views)
   value_renamed = ind-Expr (λ c. Unit {0}) Means (λ x y is. tt) (λ x y is. subst (λ z. Means (roll-Expr z)) is (rolled (λ c. c.0) (λ e. e.0) (λ e. e.1) y))
+
+-- so both sides of an equation have one value where they have one seen through the renaming
+pub one_value_renamed : (place : ℕ → ℕ) (equation : Equation) (views : Views) → HasOneValue views (renamed_equation place equation) ↔ HasOneValue (views_through place views) equation
+one_value_renamed place (Valued left right clause) views = (
+  (λ h. (h.0, sym (value_renamed place left views) ∙ h.1, sym (value_renamed place right views) ∙ h.2)),
+  (λ h. (h.0, value_renamed place left views ∙ h.1, value_renamed place right views ∙ h.2)),
+)
+one_value_renamed place (Clocks left right clause) views = ((λ h. h), (λ h. h))

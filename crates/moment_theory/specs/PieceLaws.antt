@@ -1,18 +1,21 @@
 -- Laws of the order of a moment, of pieces of it, of groups of names, and of renamed expressions.
-use Rattle.std.specs.Prelude.{◌≡◌, ℕ, ◌≤◌, ◌++◌, Bool, List, Option, Contains}
+use Rattle.std.specs.Prelude.{◌≡◌, ◌↔◌, ℕ, ◌≤◌, ◌++◌, Bool, List, Option, Contains}
+use Rattle.flat_model.specs.declared.equation.Equation.{Equation}
 use Rattle.flat_model.specs.declared.expression.Expr.{Expr}
 use Rattle.flat_model.specs.Assignment.{Assignment}
 use Rattle.flat_model.specs.Given.{Row, with_row}
-use Rattle.flat_model.specs.Meaning.{value_of}
+use Rattle.flat_model.specs.Meaning.{seen_by, value_of}
+use Rattle.flat_model.specs.Meets.{HasOneValue}
+use Rattle.flat_model.specs.Parts.{parts_beside}
 use Rattle.flat_model.specs.Runnable.{IsRunnable}
 use Rattle.flat_model.specs.Setting.{Setting, class_ticks, views_at}
-use Rattle.flat_model.specs.Uses.{Use, AreUses}
+use Rattle.flat_model.specs.Uses.{Use, IsSolvableFor, AreUses}
 use Rattle.flat_model.specs.Views.{Views}
 use Rattle.moment_theory.specs.Division.{ArePure, AreUnheld, ArePartitionsBelow, joined, parts_from, moment_order}
 use Rattle.moment_theory.specs.Free.{AreFree, AreSameUses, IsOrdered}
 use Rattle.moment_theory.specs.Groups.{AgreeOnUpTo, IsClockWithin, IsWithin}
 use Rattle.moment_theory.specs.Pieces.{AreApart, AreTakenAlone, AreBeside}
-use Rattle.moment_theory.specs.Renamed.{renamed, views_through}
+use Rattle.moment_theory.specs.Renamed.{renamed, renamed_equation, views_through, HasOwnNumber}
 use Rattle.moment_theory.specs.Sound.{IsSound, IsClear, WaitsForNoOwn, AgreeOnNeeds, DoesAlike}
 use Rattle.moment_theory.specs.Taken.{AreInputs, AreTaken}
 
@@ -50,6 +53,13 @@ GroupLaw = (s : Setting) (group : ℕ → Bool) (S T : Assignment) (m : ℕ) →
 -- a renamed expression has the value of the expression, seen through the renaming
 abbrev pub RenamedLaw : Type 0
 RenamedLaw = (place : ℕ → ℕ) (e : Expr) (views : Views) → value_of (renamed place e) views ≡ value_of e (views_through place views)
+
+-- a renamed equation is met as the equation is, is solvable for the same name, and has the same parts beside its way, seen through the renaming
+abbrev pub RenamedEquationLaw : Type 0
+RenamedEquationLaw = (place : ℕ → ℕ) (x : ℕ) (equation : Equation) → HasOwnNumber place x
+    → ((views : Views) → HasOneValue views (renamed_equation place equation) ↔ HasOneValue (views_through place views) equation)
+    × (IsSolvableFor x equation → IsSolvableFor (place x) (renamed_equation place equation))
+    × ((views : Views) → seen_by views (parts_beside (place x) (renamed_equation place equation)) ≡ seen_by (views_through place views) (parts_beside x equation))
 
 -- the inputs are a sound row, and uses taken in a free order from a sound row that has none of their values leave a sound row
 abbrev pub SoundLaw : Type 0

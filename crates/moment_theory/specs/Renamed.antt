@@ -1,5 +1,7 @@
 -- Expressions with other numbers for their names, as a part of a model has them.
-use Rattle.std.specs.Prelude.{ℕ, None}
+use Rattle.std.specs.Prelude.{◌≡◌, ℕ, None}
+use Rattle.flat_model.specs.declared.equation.Equation.{Equation}
+use Rattle.flat_model.specs.declared.equation.Equation.TheVariants.{Valued, Clocks}
 use Rattle.flat_model.specs.declared.expression.Expr.{Expr}
 use Rattle.flat_model.specs.declared.clock.ClockExpr.{ClockExpr}
 use Rattle.flat_model.specs.declared.clock.ClockExpr.TheOpen.{Expr-F}
@@ -34,3 +36,12 @@ view_through place v = record { now = λ x. v.now (place x); previous = λ x. v.
 
 abbrev pub views_through : (ℕ → ℕ) → Views → Views
 views_through place views back = view_through place (views back)
+
+-- an equation with other numbers for its names
+abbrev pub renamed_equation : (ℕ → ℕ) → Equation → Equation
+renamed_equation place (Valued left right clause) = Valued (renamed place left) (renamed place right) clause
+renamed_equation place (Clocks left right clause) = Clocks left right clause
+
+-- a name has a number that no other name has
+abbrev pub HasOwnNumber : (ℕ → ℕ) → ℕ → Type 0
+HasOwnNumber place x = (y : ℕ) → place y ≡ place x → y ≡ x

@@ -1,14 +1,4 @@
-ghost use Rattle.moment_theory.specs.PieceLaws.{
-  AlikeLaw,
-  DivisionLaw,
-  GroupLaw,
-  GroupTickLaw,
-  PartitionsLaw,
-  PiecesLaw,
-  RenamedLaw,
-  SoundLaw,
-  UnheldLaw,
-};
+ghost use Rattle.moment_theory.specs.PieceLaws.{AlikeLaw, DivisionLaw, GroupLaw, GroupTickLaw, PartitionsLaw, PiecesLaw, RenamedEquationLaw, RenamedLaw, SoundLaw, UnheldLaw};
 ghost use Rattle.moment_theory.specs.Laws.{TakenLaw, OrderLaw, NextLaw, StopLaw, FaultLaw, MetLaw, OnlyLaw, OneFaultLaw, WholeLaw, OneRunLaw};
 
 /// Uses taken in a free order over the inputs give exactly the given values.
@@ -104,4 +94,9 @@ pub fn sound_law()
 /// A use gives, and fails, alike over rows that agree on what it needs.
 pub fn alike_law()
     ensures { AlikeLaw }
+{}
+
+/// A renamed equation is met, solvable and evaluated beside its name as the equation is, seen through the renaming.
+pub fn renamed_equation_law()
+    ensures { RenamedEquationLaw }
 {}
