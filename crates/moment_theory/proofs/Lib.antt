@@ -35,5 +35,6 @@ pub mod Ran
 pub mod MetTaken
 pub mod Ready
 pub mod Taking
+pub mod Turns
 pub mod Transfer
 pub mod Unknown

@@ -45,7 +45,7 @@ free_back s [] ys free = free
 free_back s (x ∷ xs) ys free = free_back s xs ys free.1
 
 -- what the front reaches, the back does not
-reached_twice : (s : Setting) (xs ys : List Use) → AreFree s (xs ++ ys) → (y : ℕ) → IsReachedBy y xs → IsReachedBy y ys → ⊥
+pub reached_twice : (s : Setting) (xs ys : List Use) → AreFree s (xs ++ ys) → (y : ℕ) → IsReachedBy y xs → IsReachedBy y ys → ⊥
 reached_twice s [] ys free y one two = one
 reached_twice s (x ∷ xs) ys free y (inl is) two = free.0.once (subst (λ z. IsReachedBy z (xs ++ ys)) is (reached_second xs ys y two))
 reached_twice s (x ∷ xs) ys free y (inr one) two = reached_twice s xs ys free.1 y one two

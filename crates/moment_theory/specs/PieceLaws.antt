@@ -1,5 +1,5 @@
 -- Laws of the order of a moment, of pieces of it, of groups of names, and of renamed expressions.
-use Rattle.std.specs.Prelude.{◌≡◌, ◌↔◌, ℕ, ◌≤◌, ◌++◌, Bool, List, Option, Contains}
+use Rattle.std.specs.Prelude.{◌≡◌, ◌↔◌, ℕ, ◌≤◌, ◌++◌, Bool, List, Option, Contains, ◌∷◌, Some, slice_get}
 use Rattle.flat_model.specs.declared.equation.Equation.{Equation}
 use Rattle.flat_model.specs.declared.expression.Expr.{Expr}
 use Rattle.flat_model.specs.Assignment.{Assignment}
@@ -72,3 +72,18 @@ SoundLaw = (s : Setting) (uses : List Use) → IsRunnable s → AreUses s uses �
 abbrev pub AlikeLaw : Type 0
 AlikeLaw = (s : Setting) (uses : List Use) → IsRunnable s → AreUses s uses → (S : Assignment) (m : ℕ) (entry : Use) → Contains uses entry → WaitsForNoOwn s entry
     → (a b : Row) → IsSound s (with_row S m a) m → AgreeOnNeeds s entry a b → DoesAlike s uses S m entry a b
+
+-- what a use does at its turn in a free order it does over the last row, and the other way round
+abbrev pub TurnLaw : Type 0
+TurnLaw = (s : Setting) (uses before after : List Use) (entry : Use) → IsOrdered s uses (before ++ entry ∷ after)
+    → (S : Assignment) (m : ℕ) (inputs row last : Row) → AreInputs s m inputs → AreTaken s S m before inputs row → AreTaken s S m (entry ∷ after) row last
+    → DoesAlike s uses S m entry row last × DoesAlike s uses S m entry last row
+
+-- what a use does over the row of its piece it does over the row of all pieces, and the other way round
+abbrev pub PieceUseLaw : Type 0
+PieceUseLaw = (s : Setting) (uses first rest : List Use) (pieces : List (List Use)) → IsOrdered s uses (first ++ (joined pieces ++ rest)) → AreApart s pieces
+    → (S : Assignment) (m : ℕ) (inputs base : Row) → AreInputs s m inputs → AreTaken s S m first inputs base
+    → (owns : ℕ → Row) → AreTakenAlone s S m base owns pieces
+    → (row : Row) → AreTaken s S m (first ++ joined pieces) inputs row → AreBeside base owns pieces row
+    → (i : ℕ) (piece : List Use) → slice_get pieces i ≡ Some piece → (entry : Use) → Contains piece entry
+    → DoesAlike s uses S m entry (owns i) row × DoesAlike s uses S m entry row (owns i)

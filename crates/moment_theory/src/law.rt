@@ -1,4 +1,4 @@
-ghost use Rattle.moment_theory.specs.PieceLaws.{AlikeLaw, DivisionLaw, GroupLaw, GroupTickLaw, PartitionsLaw, PiecesLaw, RenamedEquationLaw, RenamedLaw, SoundLaw, UnheldLaw};
+ghost use Rattle.moment_theory.specs.PieceLaws.{AlikeLaw, DivisionLaw, GroupLaw, GroupTickLaw, PartitionsLaw, PieceUseLaw, PiecesLaw, RenamedEquationLaw, RenamedLaw, SoundLaw, TurnLaw, UnheldLaw};
 ghost use Rattle.moment_theory.specs.Laws.{TakenLaw, OrderLaw, NextLaw, StopLaw, FaultLaw, MetLaw, OnlyLaw, OneFaultLaw, WholeLaw, OneRunLaw};
 
 /// Uses taken in a free order over the inputs give exactly the given values.
@@ -99,4 +99,14 @@ pub fn alike_law()
 /// A renamed equation is met, solvable and evaluated beside its name as the equation is, seen through the renaming.
 pub fn renamed_equation_law()
     ensures { RenamedEquationLaw }
+{}
+
+/// What a use gives, or how it fails, at its turn in a free order is what it does over the last row.
+pub fn turn_law()
+    ensures { TurnLaw }
+{}
+
+/// What a use gives, or how it fails, over the row of its piece is what it does over the row of all pieces.
+pub fn piece_use_law()
+    ensures { PieceUseLaw }
 {}
