@@ -13,6 +13,7 @@ pub mod Solutions
 pub mod Alone
 pub mod GivenByOrder
 pub mod Groups
+pub mod GroupUses
 pub mod Meeting
 pub mod NoSolution
 pub mod Ordered

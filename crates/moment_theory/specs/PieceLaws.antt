@@ -2,10 +2,12 @@
 use Rattle.std.specs.Prelude.{◌≡◌, ◌↔◌, ℕ, ◌≤◌, ◌++◌, Bool, List, Option, Contains, ◌∷◌, Some, slice_get}
 use Rattle.flat_model.specs.declared.equation.Equation.{Equation}
 use Rattle.flat_model.specs.declared.expression.Expr.{Expr}
+use Rattle.flat_model.specs.declared.model.FlatName.{FlatName}
 use Rattle.flat_model.specs.Assignment.{Assignment}
 use Rattle.flat_model.specs.Given.{Row, with_row}
 use Rattle.flat_model.specs.Meaning.{seen_by, value_of}
 use Rattle.flat_model.specs.Meets.{HasOneValue}
+use Rattle.flat_model.specs.Order.{IsOrder}
 use Rattle.flat_model.specs.Parts.{parts_beside}
 use Rattle.flat_model.specs.Runnable.{IsRunnable}
 use Rattle.flat_model.specs.Setting.{Setting, class_ticks, views_at}
@@ -13,7 +15,7 @@ use Rattle.flat_model.specs.Uses.{Use, IsSolvableFor, AreUses}
 use Rattle.flat_model.specs.Views.{Views}
 use Rattle.moment_theory.specs.Division.{ArePure, AreUnheld, ArePartitionsBelow, joined, parts_from, moment_order}
 use Rattle.moment_theory.specs.Free.{AreFree, AreSameUses, IsOrdered}
-use Rattle.moment_theory.specs.Groups.{AgreeOnUpTo, IsClockWithin, IsWithin}
+use Rattle.moment_theory.specs.Groups.{AgreeOnUpTo, IsClockWithin, IsWithin, IsUseWithin, IsSolvedAlike}
 use Rattle.moment_theory.specs.Pieces.{AreApart, AreTakenAlone, AreBeside}
 use Rattle.moment_theory.specs.Renamed.{renamed, renamed_equation, views_through, HasOwnNumber}
 use Rattle.moment_theory.specs.Sound.{IsSound, IsClear, WaitsForNoOwn, AgreeOnNeeds, DoesAlike}
@@ -27,6 +29,11 @@ DivisionLaw = (s : Setting) (uses : List Use) (pure : Use → Bool) (count : ℕ
 -- the uses that reach names on which the conditions of sites rest, and no clock, are pure
 abbrev pub UnheldLaw : Type 0
 UnheldLaw = (s : Setting) (uses : List Use) (group : ℕ → Bool) → IsRunnable s → AreUses s uses → AreUnheld s group → ArePure s uses (λ entry. group entry.name)
+
+-- so a runnable setting with an order has a free order
+abbrev pub OrderedLaw : Type 0
+OrderedLaw = (s : Setting) (uses : List Use) (group : ℕ → Bool) (count : ℕ) → IsRunnable s → IsOrder s uses → AreUnheld s group → ArePartitionsBelow s count
+    → IsOrdered s uses (moment_order s (λ entry. group entry.name) count uses)
 
 -- the uses of two base partitions need nothing of each other
 abbrev pub PartitionsLaw : Type 0
@@ -49,6 +56,11 @@ GroupTickLaw = (s : Setting) (group : ℕ → Bool) (S T : Assignment) (m : ℕ)
 abbrev pub GroupLaw : Type 0
 GroupLaw = (s : Setting) (group : ℕ → Bool) (S T : Assignment) (m : ℕ) → IsRunnable s → AgreeOnUpTo group S T m
     → (e : Expr) (class : Option ℕ) → IsWithin s group class e → value_of e (views_at s S class m) ≡ value_of e (views_at s T class m)
+
+-- so a use within a group gives, or has no solution, alike under two assignments that agree on the group
+abbrev pub GroupUseLaw : Type 0
+GroupUseLaw = (s : Setting) (group : ℕ → Bool) (S T : Assignment) (m : ℕ) → IsRunnable s → AgreeOnUpTo group S T m
+    → (entry : Use) → IsUseWithin s group entry → (equation : Equation) (name : FlatName) → IsSolvedAlike s S T m entry equation name
 
 -- a renamed expression has the value of the expression, seen through the renaming
 abbrev pub RenamedLaw : Type 0

@@ -1,4 +1,4 @@
-ghost use Rattle.moment_theory.specs.PieceLaws.{AlikeLaw, DivisionLaw, GroupLaw, GroupTickLaw, PartitionsLaw, PieceUseLaw, PiecesLaw, RenamedEquationLaw, RenamedLaw, SoundLaw, TurnLaw, UnheldLaw};
+ghost use Rattle.moment_theory.specs.PieceLaws.{AlikeLaw, DivisionLaw, GroupLaw, GroupTickLaw, GroupUseLaw, OrderedLaw, PartitionsLaw, PieceUseLaw, PiecesLaw, RenamedEquationLaw, RenamedLaw, SoundLaw, TurnLaw, UnheldLaw};
 ghost use Rattle.moment_theory.specs.Laws.{TakenLaw, OrderLaw, NextLaw, StopLaw, FaultLaw, MetLaw, OnlyLaw, OneFaultLaw, WholeLaw, OneRunLaw};
 
 /// Uses taken in a free order over the inputs give exactly the given values.
@@ -109,4 +109,14 @@ pub fn turn_law()
 /// What a use gives, or how it fails, over the row of its piece is what it does over the row of all pieces.
 pub fn piece_use_law()
     ensures { PieceUseLaw }
+{}
+
+/// A use within a group gives, or has no solution, alike under two assignments that agree on the group.
+pub fn group_use_law()
+    ensures { GroupUseLaw }
+{}
+
+/// A runnable setting with an order has a free order: that of the moment.
+pub fn ordered_law()
+    ensures { OrderedLaw }
 {}

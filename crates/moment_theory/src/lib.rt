@@ -7,7 +7,8 @@
 mod law;
 
 pub use law::{
-    alike_law, division_law, fault_law, group_law, group_tick_law, met_law, next_law,
-    one_fault_law, one_run_law, only_law, order_law, partitions_law, piece_use_law, pieces_law,
-    renamed_law, sound_law, stop_law, taken_law, turn_law, unheld_law, whole_law,
+    alike_law, division_law, fault_law, group_law, group_tick_law, group_use_law, met_law,
+    next_law, one_fault_law, one_run_law, only_law, order_law, ordered_law, partitions_law,
+    piece_use_law, pieces_law, renamed_law, sound_law, stop_law, taken_law, turn_law, unheld_law,
+    whole_law,
 };
