@@ -17,6 +17,7 @@ pub mod Moments
 pub mod NextInstant
 pub mod Occurrences
 pub mod Operators
+pub mod Order
 pub mod Parts
 pub mod Plan
 pub mod Runnable

@@ -3,3 +3,7 @@
 
 #[cfg(test)]
 mod expressions;
+#[cfg(test)]
+mod orders;
+#[cfg(test)]
+mod orientation;

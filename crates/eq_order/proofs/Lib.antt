@@ -1,0 +1,17 @@
+pub mod Composing
+pub mod Counts
+pub mod Gathering
+pub mod Lawful
+pub mod Listed
+pub mod Marks
+pub mod Meetings
+pub mod Mirrors
+pub mod OneAnswer
+pub mod Passing
+pub mod Reading
+pub mod Sets
+pub mod Solvable
+pub mod Steps
+pub mod Surveys
+pub mod Ties
+pub mod Turns

@@ -1,0 +1,14 @@
+pub mod Counts
+pub mod Chains
+pub mod Checking
+pub mod Descent
+pub mod Down
+pub mod OneAnswer
+pub mod Passing
+pub mod Reached
+pub mod Sides
+pub mod Tallies
+pub mod Ties
+pub mod Undoing
+pub mod Unread
+pub mod Ways

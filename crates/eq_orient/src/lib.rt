@@ -1,0 +1,11 @@
+//! Equations solved for a name.
+#![tactic(auto)]
+
+pub mod kinds;
+mod law;
+mod solving;
+mod standing;
+
+pub use law::{solves_law, spine_law, unread_law};
+pub use solving::solve_value;
+pub use standing::{Manner, lags, spine};

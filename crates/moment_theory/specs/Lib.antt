@@ -1,0 +1,10 @@
+pub mod Free
+pub mod Taken
+pub mod Laws
+pub mod Going
+pub mod Division
+pub mod Pieces
+pub mod Renamed
+pub mod Groups
+pub mod PieceLaws
+pub mod Sound
