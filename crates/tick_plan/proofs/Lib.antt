@@ -1,0 +1,13 @@
+pub mod Commons
+pub mod Counted
+pub mod Counts
+pub mod Firsts
+pub mod Gridded
+pub mod Keys
+pub mod Nexts
+pub mod Passing
+pub mod Planning
+pub mod Rows
+pub mod Starting
+pub mod Steps
+pub mod Untold
