@@ -3,7 +3,7 @@ use Rattle.std.proofs.Common.{◌≡◌, refl, sym, subst, ap, ◌∙◌, ℕ, �
 use Rattle.rational_time.specs.declared.ratio.Ratio.{Ratio}
 use Rattle.rational_time.specs.Fraction.{AtMost, IsFraction}
 use Rattle.tick_plan.specs.declared.axis.Axis.{Axis}
-use Rattle.moment_list.specs.Next.{IsAfter, AreUnitsAfter}
+use Rattle.flat_model.specs.NextInstant.{IsAfter, AreUnitsAfter}
 use Rattle.tick_tree.specs.Tree.{leaf_of}
 use Rattle.tick_tree.proofs.Roots.{root_least, attained}
 use Rattle.tick_plan.specs.Course.{IsTickOf, TickAhead}
@@ -11,7 +11,7 @@ use Rattle.tick_plan.specs.Axis.{IsKey, IsAxis}
 use Rattle.tick_plan.proofs.Keys.{tick_in_units, units_are_tick, after_units, units_after}
 
 -- an instant of u units that is within the stop, and back
-within_units : (t : Ratio) (u den sn sd : ℕ) → 0 < den → t.num * den ≡ u * t.den → u * sd ≤ sn * den → t.num * sd ≤ sn * t.den
+pub within_units : (t : Ratio) (u den sn sd : ℕ) → 0 < den → t.num * den ≡ u * t.den → u * sd ≤ sn * den → t.num * sd ≤ sn * t.den
 within_units t u den sn sd grain at le = le_of_mul-le-mul_right {k = den} (omega (arith, ap (λ z. z * sd) at, mul-le-mul_right t.den le)) grain
 
 pub units_within : (t : Ratio) (u den sn sd : ℕ) → t.num * den ≡ u * t.den → t.num * sd ≤ sn * t.den → u * sd ≤ sn * den

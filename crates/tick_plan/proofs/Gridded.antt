@@ -5,6 +5,8 @@ use Rattle.std.proofs.Math.Nat.{mul-mod_left, eq_of_mul-eq-mul_right}
 use Rattle.rational_time.specs.declared.ratio.Ratio.{Ratio}
 use Rattle.rational_time.specs.Fraction.{AtMost, IsTick}
 use Rattle.flat_model.specs.Clocks.{is_tick}
+use Rattle.flat_model.specs.Runnable.{denominators}
+use Rattle.tick_plan.specs.Making.{IsLeastMultiple}
 use Rattle.flat_model.proofs.Ticks.{is_tick_law}
 use Rattle.std.proofs.Props.{props}
 use Rattle.flat_model.specs.declared.clock.Clock.{Clock}
@@ -118,3 +120,7 @@ factor_some clocks den limit firsts steps class site factor shift scaled clock =
 pub scaled_still : (old new : Axis) (firsts steps : List ℕ) → IsSameAxis old new → ∥ IsScaled old.course.clocks old.den old.limit firsts steps ∥₁ → ∥ IsScaled new.course.clocks new.den new.limit firsts steps ∥₁
 scaled_still old new firsts steps same is = subst (λ x. ∥ IsScaled x new.den new.limit firsts steps ∥₁) (sym same.course.clocks)
     (subst (λ x. ∥ IsScaled old.course.clocks x new.limit firsts steps ∥₁) (sym same.den) (subst (λ x. ∥ IsScaled old.course.clocks old.den x firsts steps ∥₁) (sym same.limit) is))
+
+-- and so does their least common denominator
+pub least_still : (old new : Axis) → IsSameAxis old new → ∥ IsLeastMultiple (denominators old.course.clocks) old.den ∥₁ → ∥ IsLeastMultiple (denominators new.course.clocks) new.den ∥₁
+least_still old new same is = subst (λ x. ∥ IsLeastMultiple (denominators x) new.den ∥₁) (sym same.course.clocks) (subst (λ x. ∥ IsLeastMultiple (denominators old.course.clocks) x ∥₁) (sym same.den) is)

@@ -9,7 +9,7 @@ use Rattle.flat_model.specs.declared.clock.Clock.{Clock}
 use Rattle.flat_model.specs.declared.clock.Clock.TheVariants.{Periodic, Event}
 use Rattle.flat_model.specs.declared.clock.Moment.{Moment}
 use Rattle.flat_model.specs.Moments.{IsDue, TicksAt}
-use Rattle.moment_list.specs.Next.{IsAfter}
+use Rattle.flat_model.specs.NextInstant.{IsAfter}
 use Rattle.tick_plan.specs.declared.course.Course.{Course}
 use Rattle.tick_plan.specs.Course.{AreRows, IsRowOf, IsTickOf, IsFirstOf, RowAhead, TickAhead, NextIs, earlier_of}
 

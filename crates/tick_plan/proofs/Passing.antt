@@ -9,14 +9,14 @@ use Rattle.rational_time.proofs.Order.{cross_le_trans, cross_lt_le_trans, cross_
 use Rattle.flat_model.specs.declared.clock.Moment.{Moment}
 use Rattle.flat_model.specs.declared.clock.Moment.TheVariants.{Initial, At}
 use Rattle.tick_plan.specs.declared.axis.Axis.{Axis}
-use Rattle.moment_list.specs.Next.{IsAfter, AreUnitsAfter, IsNext}
+use Rattle.flat_model.specs.NextInstant.{IsAfter, AreUnitsAfter, IsNext}
 use Rattle.tick_tree.specs.Tree.{IsTree, leaf_of}
 use Rattle.tick_plan.specs.declared.course.Course.{Course}
 use Rattle.tick_plan.specs.Course.{AreRows, IsRow}
 use Rattle.tick_plan.specs.Axis.{IsKey, IsPlaced, IsAxis, passed_key}
 use Rattle.tick_plan.proofs.Keys.{units_after, key_stays, key_moves}
-use Rattle.moment_list.proofs.Left.{later_after}
-use Rattle.moment_list.proofs.Ratios.{ratio_of}
+use Rattle.flat_model.proofs.InstantsLeft.{later_after}
+use Rattle.flat_model.proofs.Ratios.{ratio_of}
 use Rattle.tick_tree.proofs.Roots.{root_least, attained}
 use Rattle.tick_plan.proofs.Firsts.{tick_some}
 use Rattle.tick_plan.proofs.Nexts.{tick_due}

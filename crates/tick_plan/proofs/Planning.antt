@@ -3,7 +3,7 @@ use Rattle.std.proofs.Common.{◌≡◌, refl, sym, subst, ap, ap₂, ◌∙◌,
 use Rattle.rational_time.specs.declared.ratio.Ratio.{Ratio}
 use Rattle.flat_model.specs.declared.clock.Clock.{Clock}
 use Rattle.flat_model.specs.declared.clock.Moment.{Moment}
-use Rattle.moment_list.specs.Next.{AreLeft}
+use Rattle.flat_model.specs.NextInstant.{AreLeft}
 use Rattle.tick_plan.specs.declared.course.Course.{Course}
 use Rattle.tick_plan.specs.Left.{HasLeft, HasLeft-prop, AreFew, ahead_of, seen, StepsOn}
 use Rattle.tick_plan.specs.Plans.{Planned, GoesOn, counted, after_rise}

@@ -7,8 +7,8 @@ use Rattle.rational_time.specs.Fraction.{Same, Below, AtMost, at_most}
 use Rattle.rational_time.proofs.Order.{cross_le_trans, cross_lt_le_trans, cross_le_lt_trans}
 use Rattle.flat_model.specs.declared.clock.Moment.{Moment}
 use Rattle.flat_model.specs.declared.clock.Moment.TheVariants.{Initial, At}
-use Rattle.moment_list.specs.Next.{IsAfter, IsNext}
-use Rattle.moment_list.proofs.Left.{later_after}
+use Rattle.flat_model.specs.NextInstant.{IsAfter, IsNext}
+use Rattle.flat_model.proofs.InstantsLeft.{later_after}
 use Rattle.tick_plan.specs.declared.course.Course.{Course}
 use Rattle.tick_plan.specs.Course.{AreRows, IsRow, IsRowOf, RowAhead}
 use Rattle.tick_plan.proofs.Nexts.{row_due}

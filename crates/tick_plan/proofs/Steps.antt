@@ -6,8 +6,8 @@ use Rattle.rational_time.specs.declared.ratio.Ratio.{Ratio}
 use Rattle.flat_model.specs.declared.clock.Clock.{Clock}
 use Rattle.flat_model.specs.declared.clock.Moment.{Moment}
 use Rattle.flat_model.specs.declared.clock.Moment.TheVariants.{Initial, At}
-use Rattle.moment_list.specs.Next.{IsNext, NoneIsNext, AreLeft}
-use Rattle.moment_list.proofs.Left.{next_first, none_left, rest_left}
+use Rattle.flat_model.specs.NextInstant.{IsNext, NoneIsNext, AreLeft}
+use Rattle.flat_model.proofs.InstantsLeft.{next_first, none_left, rest_left}
 use Rattle.tick_plan.specs.declared.axis.Axis.{Axis}
 use Rattle.tick_plan.specs.declared.course.Course.{Course}
 use Rattle.tick_plan.specs.Axis.{IsKey, IsPlaced, IsSound}

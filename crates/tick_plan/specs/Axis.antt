@@ -2,7 +2,7 @@
 use Rattle.std.specs.Prelude.{◌==◌, if◌then◌else◌, ◌≡◌, ℕ, ◌+◌, ◌*◌, ◌<◌, ◌≤◌, ◌↔◌, List, length, get_or, min, Option}
 use Rattle.rational_time.specs.declared.ratio.Ratio.{Ratio}
 use Rattle.flat_model.specs.declared.clock.Moment.{Moment}
-use Rattle.moment_list.specs.Next.{AreUnitsAfter}
+use Rattle.flat_model.specs.NextInstant.{AreUnitsAfter}
 use Rattle.tick_tree.specs.Tree.{IsTree, leaf_of}
 use Rattle.tick_plan.specs.declared.axis.Axis.{Axis}
 use Rattle.tick_plan.specs.declared.course.Course.{Course}

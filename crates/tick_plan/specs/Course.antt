@@ -6,7 +6,7 @@ use Rattle.flat_model.specs.declared.clock.Clock.{Clock}
 use Rattle.flat_model.specs.declared.clock.Clock.TheVariants.{Periodic}
 use Rattle.flat_model.specs.declared.clock.Moment.{Moment}
 use Rattle.flat_model.specs.declared.clock.Moment.TheVariants.{At}
-use Rattle.moment_list.specs.Next.{IsAfter, IsNext, NoneIsNext}
+use Rattle.flat_model.specs.NextInstant.{IsAfter, IsNext, NoneIsNext}
 use Rattle.tick_plan.specs.declared.course.Course.{Course}
 
 -- the rows before the place are not after the moment given last, and the others are
@@ -37,6 +37,10 @@ pub record IsTickOf (c : Course) (t : Ratio) : Type 0 where
   pub k : ℕ
   pub at : IsTick period start k t
   pub within : AtMost t c.stop
+
+-- a tick of the clock with this period and start that is not after the stop
+abbrev pub IsTickIn : Ratio → Ratio → Ratio → Ratio → Type 0
+IsTickIn period start stop t = (k : ℕ) × IsTick period start k t × AtMost t stop
 
 -- a row that is not after the stop
 pub record IsRowOf (c : Course) (t : Ratio) : Type 0 where

@@ -1,6 +1,8 @@
 -- Clocks in units of one denominator.
 use Rattle.std.specs.Prelude.{◌≡◌, ℕ, ◌+◌, ◌-◌, ◌*◌, ◌/◌, ◌%◌, ◌<◌, ◌==◌, ◌&&◌, nat_le, Bool, List, length, get_or, slice_get, min, Option, Some, None}
 use Rattle.rational_time.specs.declared.ratio.Ratio.{Ratio}
+use Rattle.flat_model.specs.declared.clock.Moment.{Moment}
+use Rattle.flat_model.specs.declared.clock.Moment.TheVariants.{At}
 use Rattle.flat_model.specs.declared.clock.Clock.{Clock}
 use Rattle.flat_model.specs.declared.clock.Clock.TheVariants.{Periodic, Event}
 
@@ -33,3 +35,8 @@ grid_tick den first step t = ((t.num * den) % t.den == 0) && nat_le first ((t.nu
 -- a value in units, or the limit where it has more
 abbrev pub CountsTo : ℕ → ℕ → Ratio → ℕ → Type 0
 CountsTo den limit value result = (units : ℕ) × (units * value.den ≡ den * value.num) × (result ≡ min units limit)
+
+-- the instant given last is before the limit
+abbrev pub IsBeforeLimit : Option Moment → ℕ → ℕ → Type 0
+IsBeforeLimit (Some (At t)) den limit = t.num * den < limit * t.den
+IsBeforeLimit _ den limit = Unit {0}

@@ -3,8 +3,8 @@ use Rattle.std.specs.Prelude.{◌≡◌, ◌<◌, ◌^◌, ◌+◌, List, [], �
 use Rattle.rational_time.specs.declared.ratio.Ratio.{Ratio}
 use Rattle.flat_model.specs.declared.clock.Moment.{Moment}
 use Rattle.flat_model.specs.declared.clock.Moment.TheVariants.{At}
-use Rattle.moment_list.specs.Next.{AreLeft}
-use Rattle.moment_list.proofs.LeftOnce.{one_list}
+use Rattle.flat_model.specs.NextInstant.{AreLeft}
+use Rattle.flat_model.proofs.InstantsOnce.{one_list}
 use Rattle.tick_plan.specs.declared.course.Course.{Course}
 use Rattle.tick_plan.specs.Course.{IsWithin, IsSameCourse}
 use Rattle.tick_plan.specs.Plans.{Planned, moments_of}

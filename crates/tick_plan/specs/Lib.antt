@@ -1,8 +1,10 @@
 pub mod Axis
 pub mod Course
+pub mod Fraction
 pub mod Grid
 pub mod Leaves
 pub mod Left
 pub mod Making
 pub mod NewPlan
 pub mod Plans
+pub mod Seen

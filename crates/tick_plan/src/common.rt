@@ -13,16 +13,16 @@ use rational_time::{Ratio, lcm};
 fn common(a: u64, b: u64) -> u64
     requires first { 0 < a }
     requires second { 0 < b }
-    requires within { HasMultipleBelow (2 ^ 40) (a ∷ b ∷ []) }
+    requires within { ∥ HasMultipleBelow (2 ^ 40) (a ∷ b ∷ []) ∥₁ }
     ensures { IsLcm a b result }
 {
     lcm(a, b).unwrap()
 }
 
 /// The least common multiple of a number and the denominators of a clock.
-fn with_clock(den: u64, period: Ratio, start: Ratio) -> u64
+pub(crate) fn with_clock(den: u64, period: Ratio, start: Ratio) -> u64
     requires some { 0 < den }
-    requires within { HasMultipleBelow (2 ^ 40) (den ∷ period.den ∷ start.den ∷ []) }
+    requires within { ∥ HasMultipleBelow (2 ^ 40) (den ∷ period.den ∷ start.den ∷ []) ∥₁ }
     ensures some { 0 < result }
     ensures own { den ∣ result }
     ensures period { period.den ∣ result }
@@ -35,7 +35,7 @@ fn with_clock(den: u64, period: Ratio, start: Ratio) -> u64
 /// The same of a clock that may be one of an event.
 fn with_one(den: u64, clock: Clock) -> u64
     requires some { 0 < den }
-    requires within { (period start : Ratio) → clock ≡ Periodic period start → HasMultipleBelow (2 ^ 40) (den ∷ period.den ∷ start.den ∷ []) }
+    requires within { (period start : Ratio) → clock ≡ Periodic period start → ∥ HasMultipleBelow (2 ^ 40) (den ∷ period.den ∷ start.den ∷ []) ∥₁ }
     ensures some { 0 < result }
     ensures own { den ∣ result }
     ensures parts { (period start : Ratio) → clock ≡ Periodic period start → (period.den ∣ result) × (start.den ∣ result) }

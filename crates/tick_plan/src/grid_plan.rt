@@ -1,14 +1,16 @@
-ghost use Rattle.std.specs.Prelude.{ℕ, ◌≡◌, ◌<◌, ◌≤◌, ◌+◌, ◌^◌, length, map, false, get_or};
+ghost use Rattle.std.specs.Prelude.{◌≡◌, length};
+ghost use Rattle.flat_model.specs.Runnable.{denominators};
 ghost use Rattle.tick_plan.specs.Axis.{IsAxis};
 ghost use Rattle.tick_plan.specs.Course.{IsWithin};
 ghost use Rattle.tick_plan.specs.Grid.{IsScaled};
 ghost use Rattle.tick_plan.specs.Left.{HasLeft, HasLeft-prop, AreFew};
+ghost use Rattle.tick_plan.specs.Making.{IsLeastMultiple};
 
 use crate::axis::Axis;
 use crate::counting::count_all;
 use crate::stepping::step;
-use crate::traits::{TickSource, Ticking};
 use crate::ticks::{is_event_tick, is_grid_tick};
+use crate::traits::{TickSource, Ticking};
 use flat_model::{Clock, Moment};
 
 /// A plan in units of one denominator.
@@ -20,6 +22,7 @@ pub struct GridPlan {
     pub(crate) firsts: Vec<u64>,
     pub(crate) steps: Vec<u64>,
     pub ghost scaled: { ∥ IsScaled axis.course.clocks axis.den axis.limit firsts.items steps.items ∥₁ },
+    pub ghost least: { ∥ IsLeastMultiple (denominators axis.course.clocks) axis.den ∥₁ },
     pub ghost within: { ∥ IsWithin axis.course.given axis.course.stop ∥₁ },
     pub ghost placed: { ∥ IsAxis axis ∥₁ },
     pub ghost left: { HasLeft axis.course } by { HasLeft-prop axis.course },

@@ -76,6 +76,7 @@ pub(crate) fn leaves(
     requires firsts { length firsts.now ≡ length clocks.now }
     requires steps { length steps.now ≡ length clocks.now }
     ensures each { IfOk result (λ leaves. (leaf : Leaf) → Contains leaves.items leaf → IsLeafOf clocks.now firsts.now steps.now leaf) }
+    ensures short { IfOk result (λ leaves. length leaves.items ≤ length clocks.now) }
     ensures all { IfOk result (λ leaves. (i : ℕ) (period start : Ratio) → IsPeriodic clocks.now i period start → Contains leaves.items (leaf_at firsts.now steps.now i)) }
 {
     let mut leaves = Vec::with_capacity(alloc, clocks.len())?;
@@ -102,6 +103,7 @@ pub(crate) fn parts(alloc: Global, leaves: &[Leaf]) -> Result<Units, AllocError>
     let mut firsts = Vec::with_capacity(alloc, leaves.len())?;
     let mut steps = Vec::with_capacity(alloc, leaves.len())?;
     for leaf in leaves {
+        let leaf = *leaf;
         firsts.push(leaf.first)?;
         steps.push(leaf.step)?;
     }

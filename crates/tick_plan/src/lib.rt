@@ -1,16 +1,29 @@
 //! The moments of a run in order, and which classes tick at the one given last.
+//!
+//! A run has the moment before all instants, and then the instants 0, those of the rows and those of the ticks of clocks
+//! in seconds, up to the stop. Ticks of Event clocks lie at rows; a plan is told of their risings.
 #![tactic(auto)]
 
 mod ahead;
-pub mod axis;
+mod axis;
 mod common;
 mod counting;
-pub mod course;
-pub mod grid_plan;
-pub mod leaves;
+mod course;
+mod grid_new;
+mod grid_plan;
+mod leaves;
 mod making;
-pub mod plan_end;
+mod next_units;
+mod plan_end;
 mod planned;
+mod starting;
 mod stepping;
 mod ticks;
-pub mod traits;
+mod traits;
+
+pub use grid_plan::GridPlan;
+pub use plan_end::PlanEnd;
+pub use traits::{TickSource, Ticking};
+
+/// The plan that a run goes by.
+pub type Plan = GridPlan;

@@ -1,6 +1,6 @@
 ghost use Rattle.std.specs.Prelude.{◌≡◌, List, ◌<◌};
 ghost use Rattle.rational_time.specs.declared.ratio.Ratio.{Ratio};
-ghost use Rattle.moment_list.specs.Next.{AreLeft};
+ghost use Rattle.flat_model.specs.NextInstant.{AreLeft};
 ghost use Rattle.tick_plan.specs.Axis.{IsSound, IsSameAxis};
 ghost use Rattle.tick_plan.specs.Left.{StepsOn};
 

@@ -1,16 +1,15 @@
-ghost use Rattle.std.specs.Prelude.{◌≡◌, ℕ, ◌+◌, ◌/◌, ◌<◌, ◌^◌, length, get_or, min, IfOk};
+ghost use Rattle.std.specs.Prelude.{◌≡◌, ℕ, ◌+◌, ◌/◌, ◌<◌, length, get_or, min, IfOk};
 ghost use Rattle.tick_tree.specs.Tree.{IsTree, leaf_of};
 
 use std::alloc::{AllocError, Global};
 
 /// The tree over these keys.
 pub fn build(alloc: Global, keys: &[u64]) -> Result<Vec<u64>, AllocError>
-    requires { length keys.now < 2 ^ 40 }
     ensures tree { IfOk result (λ nodes. IsTree nodes.items) }
     ensures long { IfOk result (λ nodes. length nodes.items ≡ length keys.now + length keys.now) }
     ensures leaves { IfOk result (λ nodes. (j : ℕ) → j < length keys.now → leaf_of nodes.items j ≡ get_or keys.now j 0) }
 {
-    let mut nodes = Vec::with_capacity(alloc, 2 * keys.len())?;
+    let mut nodes = Vec::with_capacity(alloc, keys.len())?;
     nodes.extend_from_slice(keys)?;
     nodes.extend_from_slice(keys)?;
     fill(nodes.as_mut_slice());

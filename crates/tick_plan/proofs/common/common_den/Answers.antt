@@ -18,7 +18,7 @@ returns-clause-small c = let inv = c.loop-clock.invariant in let le = le_of_dvd 
 pub with_one-den-requires-clause-within : goal.with_one-den-requires-clause-within
 with_one-den-requires-clause-within c p s is =
     let at = slice_get_read c.args.clocks.now (length c.args.clocks.now) c.loop-clock.clock-index c.clock-item.result refl c.loop-clock-test.true c.clock-item.is in
-    within_of c.args.clocks.now c.requires c.loop-clock.den c.loop-clock.clock-index p s (at ∙ ap Some is) c.loop-clock.invariant.least
+    ∣ within_of c.args.clocks.now c.requires c.loop-clock.den c.loop-clock.clock-index p s (at ∙ ap Some is) c.loop-clock.invariant.least ∣₁
 
 pub loop-clock-preserved : goal.loop-clock-preserved
 loop-clock-preserved c =

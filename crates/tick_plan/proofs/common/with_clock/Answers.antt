@@ -1,17 +1,18 @@
 use Rattle.std.proofs.Common.{◌≡◌, ◌∙◌, sym, subst, arith, ◌<◌, ◌∷◌, []}
 use Rattle.rational_time.specs.Multiple.{IsLcm, HasMultipleBelow}
 use Rattle.rational_time.proofs.Multiples.{IsLcm-positive}
+use Rattle.tick_plan.proofs.Untold.{lift}
 use Rattle.tick_plan.proofs.Commons.{first_two, with_third, three_lcm}
 use Rattle.tick_plan.proofs.common.with_clock.Goals as goal
 
 pub common-requires-clause-within : goal.common-requires-clause-within
-common-requires-clause-within c = rw c.den.ensures (first_two c.args.den c.args.period.den c.args.start.den c.requires.within)
+common-requires-clause-within c = rw c.den.ensures (lift (first_two c.args.den c.args.period.den c.args.start.den) c.requires.within)
 
 pub common-requires-2-clause-first : goal.common-requires-2-clause-first
 common-requires-2-clause-first c = IsLcm-positive c.args.den c.den.result c.common.result c.requires.some (rw c.den.ensures c.args.period.positive) c.common.ensures
 
 pub common-requires-2-clause-within : goal.common-requires-2-clause-within
-common-requires-2-clause-within c = rw c.den-2.ensures (with_third c.args.den c.args.period.den c.args.start.den c.common.result c.requires.within (rw c.den.ensures at c.common.ensures))
+common-requires-2-clause-within c = rw c.den-2.ensures (lift (λ h. with_third c.args.den c.args.period.den c.args.start.den c.common.result h (rw c.den.ensures at c.common.ensures)) c.requires.within)
 
 pub returns-clause-some : goal.returns-clause-some
 returns-clause-some c = IsLcm-positive c.common.result c.den-2.result c.common-2.result

@@ -1,15 +1,17 @@
--- The instants of a run are a list, and there are no more of them than rows and ticks, and 0.
-use Rattle.std.proofs.Common.{◌≡◌, refl, sym, subst, ap, ◌∙◌, ℕ, zero, suc, ◌+◌, ◌*◌, ◌<◌, ◌≤◌, ◌⊎◌, inl, inr, ⊎_elim, List, [], ◌∷◌, length, get_or, slice_get, Option, Some, None, Any, All, arith, mul-le-mul_right, mul-lt-mul_of_pos_right, lt_of_mul-lt-mul_right, le_of_mul-le-mul_right, mul-pos}
+-- The instants of a run are a list, and there is at most one of them more than rows and ticks.
+use Rattle.std.proofs.Common.{◌≡◌, refl, sym, subst, ap, ◌∙◌, ℕ, zero, suc, ◌+◌, ◌*◌, ◌<◌, ◌≤◌, ◌⊎◌, inl, inr, ⊎_elim, List, [], ◌∷◌, length, get_or, slice_get, Option, Some, None, Any, All, Bool, true, false, le-leb, if◌then◌else◌, arith, mul-le-mul_right, mul-lt-mul_of_pos_right, lt_of_mul-lt-mul_right, le_of_mul-le-mul_right, mul-pos}
 use Rattle.std.proofs.lemmas.Option.{none-some, same_Some, slice_get_read, get_or_from_slice_get, slice_get_within, slice_get-get_or}
 use Rattle.rational_time.specs.declared.ratio.Ratio.{Ratio}
-use Rattle.rational_time.specs.Fraction.{Same, Below, AtMost, IsTick, IsTickWithin, IsFraction}
+use Rattle.rational_time.specs.Fraction.{Same, Below, AtMost, at_most, IsTick, IsTickWithin, IsFraction}
 use Rattle.rational_time.proofs.Order.{cross_lt_le_trans, cross_le_lt_trans, cross_same_trans}
 use Rattle.flat_model.specs.declared.clock.Clock.{Clock}
 use Rattle.flat_model.specs.declared.clock.Clock.TheVariants.{Periodic, Event}
 use Rattle.flat_model.specs.Moments.{IsDue, IsRising, TicksAt, AreInstants}
-use Rattle.flat_model.specs.Plan.{HaveTicks}
-use Rattle.moment_list.specs.Next.{AreLeft}
-use Rattle.moment_list.proofs.Ratios.{ratio_of}
+use Rattle.flat_model.specs.Plan.{HaveTicks, rows_within}
+use Rattle.std.proofs.lemmas.Bool.{false≢true}
+use Rattle.std.proofs.lemmas.List.Sums.{sum_by-cons}
+use Rattle.flat_model.specs.NextInstant.{AreLeft}
+use Rattle.flat_model.proofs.Ratios.{ratio_of}
 
 -- an instant is that of an element
 abbrev pub Among : Ratio → List Ratio → Type 0
@@ -111,12 +113,22 @@ module _ (stop : Ratio) where
   wider : (P : Ratio → Type 0) (m n : ℕ) → m ≤ n → Holds (Within P) m → Holds (Within P) n
   wider P m n le old = record { list = old.list; rising = old.rising; each = old.each; all = old.all; few = omega (arith, old.few, le) }
 
-  with_rows : (P : Ratio → Type 0) (rows : List Ratio) (n : ℕ) → Holds (Within P) n → Holds (Within (λ x. Among x rows ⊎ P x)) (length rows + n)
-  with_rows P [] n old = wider (λ x. Among x [] ⊎ P x) n (length {A = Ratio} [] + n) (omega arith) (said P (λ x. Among x [] ⊎ P x) n (λ x le p. inr p) (λ x le q. ⊎_elim (λ none. absurd none) (λ p. p) q) old)
-  with_rows P (r ∷ rows) n old = wider (λ x. Among x (r ∷ rows) ⊎ P x) (suc (length rows + n)) (length (r ∷ rows) + n) (omega arith) (said (λ x. Same x r ⊎ (Among x rows ⊎ P x)) (λ x. Among x (r ∷ rows) ⊎ P x) (suc (length rows + n))
-      (λ x le h. ⊎_elim (λ same. inl (inl same)) (λ others. ⊎_elim (λ at. inl (inr at)) (λ p. inr p) others) h)
-      (λ x le h. ⊎_elim (λ at. ⊎_elim (λ same. inl same) (λ more. inr (inl more)) at) (λ p. inr (inr p)) h)
-      (one_more (λ x. Among x rows ⊎ P x) r (length rows + n) (with_rows P rows n old)))
+  one_row : (r : Ratio) (rows : List Ratio) → rows_within (r ∷ rows) stop ≡ (if at_most r stop then 1 else 0) + rows_within rows stop
+  one_row r rows = sum_by-cons (λ t. if at_most t stop then 1 else 0) r rows
+
+  with_rows : (P : Ratio → Type 0) (rows : List Ratio) (n : ℕ) → Holds (Within P) n → Holds (Within (λ x. Among x rows ⊎ P x)) (rows_within rows stop + n)
+  with_rows P [] n old = wider (λ x. Among x [] ⊎ P x) n (rows_within [] stop + n) (omega arith) (said P (λ x. Among x [] ⊎ P x) n (λ x le p. inr p) (λ x le q. ⊎_elim (λ none. absurd none) (λ p. p) q) old)
+  with_rows P (r ∷ rows) n old = by_test (with_rows P rows n old) (at_most r stop) refl
+    where
+      by_test : Holds (Within (λ x. Among x rows ⊎ P x)) (rows_within rows stop + n) → (test : Bool) → at_most r stop ≡ test → Holds (Within (λ x. Among x (r ∷ rows) ⊎ P x)) (rows_within (r ∷ rows) stop + n)
+      by_test rest true e = wider (λ x. Among x (r ∷ rows) ⊎ P x) (suc (rows_within rows stop + n)) (rows_within (r ∷ rows) stop + n) (omega (arith, subst (λ b. rows_within (r ∷ rows) stop ≡ (if b then 1 else 0) + rows_within rows stop) e (one_row r rows))) (said (λ x. Same x r ⊎ (Among x rows ⊎ P x)) (λ x. Among x (r ∷ rows) ⊎ P x) (suc (rows_within rows stop + n))
+          (λ x le h. ⊎_elim (λ same. inl (inl same)) (λ others. ⊎_elim (λ at. inl (inr at)) (λ p. inr p) others) h)
+          (λ x le h. ⊎_elim (λ at. ⊎_elim (λ same. inl same) (λ more. inr (inl more)) at) (λ p. inr (inr p)) h)
+          (one_more (λ x. Among x rows ⊎ P x) r (rows_within rows stop + n) rest))
+      by_test rest false e = wider (λ x. Among x (r ∷ rows) ⊎ P x) (rows_within rows stop + n) (rows_within (r ∷ rows) stop + n) (omega (arith, subst (λ b. rows_within (r ∷ rows) stop ≡ (if b then 1 else 0) + rows_within rows stop) e (one_row r rows))) (said (λ x. Among x rows ⊎ P x) (λ x. Among x (r ∷ rows) ⊎ P x) (rows_within rows stop + n)
+          (λ x le h. ⊎_elim (λ at. inl (inr at)) (λ p. inr p) h)
+          (λ x le h. ⊎_elim (λ at. ⊎_elim (λ same. absurd (false≢true (sym e ∙ le-leb _ _ (at_most_same x r same le)))) (λ more. inl more) at) (λ p. inr p) h)
+          rest)
 
   -- the ticks below number n
   with_ticks : (P : Ratio → Type 0) (period start : Ratio) (n m : ℕ) → Holds (Within P) m → Holds (Within (λ x. ((k : ℕ) × (k < n) × IsTick period start k x) ⊎ P x)) (n + m)
@@ -209,9 +221,9 @@ placed xs k x lt is = slice_get_read xs (length xs) k x refl lt (sym is)
 any_of : {A : Type 0} (P : A → Type 0) (xs : List A) (k : ℕ) (x : A) → slice_get xs k ≡ Some x → P x → Any P xs
 any_of P xs k x is holds = (k, x, slice_get_within xs k x is, get_or_from_slice_get xs k x x is, holds)
 
-pub left_exists : (clocks : List Clock) (times : List Ratio) (stop : Ratio) (rows n : ℕ) → HaveTicks stop rows clocks n → (ts : List Ratio) × AreLeft clocks times stop None ts × (length ts ≤ n + (length times + 1))
+pub left_exists : (clocks : List Clock) (times : List Ratio) (stop : Ratio) (rows n : ℕ) → HaveTicks stop rows clocks n → (ts : List Ratio) × AreLeft clocks times stop None ts × (length ts ≤ n + (rows_within times stop + 1))
 left_exists clocks times stop rows n have =
-    let held = with_clocks stop (λ x. Among x times ⊎ ((x.num ≡ 0) ⊎ ⊥)) rows clocks n (length times + 1) have (with_rows stop (λ x. (x.num ≡ 0) ⊎ ⊥) times 1 (only_zero stop)) in
+    let held = with_clocks stop (λ x. Among x times ⊎ ((x.num ≡ 0) ⊎ ⊥)) rows clocks n (rows_within times stop + 1) have (with_rows stop (λ x. (x.num ≡ 0) ⊎ ⊥) times 1 (only_zero stop)) in
     (held.list, record {
       rising = held.rising;
       each = λ j t is. let h = held.each t (at_among t held.list j t is refl) in (record { within = h.0; cause = cause_of t h.1 }, tt);
