@@ -5,9 +5,11 @@ use Rattle.rational_time.specs.declared.ratio.Ratio.{Ratio}
 use Rattle.rational_time.specs.Fraction.{Below}
 use Rattle.flat_model.specs.declared.clock.Clock.{Clock}
 use Rattle.tick_tree.specs.Tree.{IsTree, leaf_of}
-use Rattle.tick_plan.specs.Grid.{AreUnits, CountsTo, IsScaled}
+use Rattle.tick_plan.specs.Grid.{AreUnits, CountsTo, HaveFactors, IsScaled}
 use Rattle.tick_plan.specs.Axis.{IsKey, IsLimit, IsPlaced}
-use Rattle.flat_model.specs.Tables.{AreTimes}
+use Rattle.flat_model.specs.Tables.{AreTimes, IsTime}
+use Rattle.tick_plan.specs.Fraction.{IsWhole}
+use Rattle.tick_plan.specs.Making.{AreCountable, IsCommonOf}
 use Rattle.tick_plan.specs.Course.{IsRisingFromZero, IsPeriodic}
 use Rattle.tick_plan.specs.Leaves.{IsLeafOf, leaf_at}
 use Rattle.tick_plan.specs.NewPlan.{IsFirstCourse}
@@ -98,3 +100,14 @@ module _ (c : Course) (den limit : ℕ) (nodes firsts steps keys strides : List 
           (λ i period start is.
               let h = all i period start is in
               (h.0, omega (arith, h.1, strides_long), units_at h.0 i period start (leaf_at firsts steps i) (omega (arith, h.1, strides_long)) (placed leaves h.0 (leaf_at firsts steps i) h.1 h.2) refl is)))
+
+-- a course before its first moment, whose clocks can be counted
+pub first_whole : (clocks : List Clock) (times : List Ratio) (stop : Ratio) (c : Course) → IsFirstCourse clocks times stop c → AreTimes times → AreCountable clocks → HaveFactors clocks → IsCommonOf clocks → IsTime stop → IsWhole c
+first_whole clocks times stop c first are countable factors common range = subst IsWhole (sym (course_is clocks times stop c first)) (record {
+  rows = record { rising = rising_from_zero times are; row_is = record { passed = λ j v is lt later. omega (arith, lt); ahead = λ j v is le. tt } };
+  countable = countable;
+  factors = factors;
+  common = common;
+  early = range.0;
+  within = tt;
+})

@@ -1,7 +1,9 @@
 -- The first tick of one clock and of all, each counted in its own denominators.
-use Rattle.std.proofs.Common.{◌≡◌, refl, sym, subst, ap, ◌∙◌, ℕ, suc, ◌+◌, ◌*◌, ◌<◌, ◌≤◌, ◌^◌, ◌⊎◌, inl, inr, ⊎_elim, List, [], ◌∷◌, length, slice_get, Option, Some, None, arith, mul-le-mul_right, le_of_mul-le-mul_right}
+use Rattle.std.proofs.Common.{◌≡◌, refl, sym, subst, ap, ◌∙◌, ℕ, suc, ◌+◌, ◌*◌, ◌<◌, ◌≤◌, ◌^◌, ◌⊎◌, inl, inr, ⊎_elim, List, [], ◌∷◌, length, get_or, slice_get, Option, Some, None, arith, mul-le-mul_right, le_of_mul-le-mul_right}
 use Rattle.std.proofs.Math.Nat.{one-dvd}
-use Rattle.std.proofs.lemmas.Option.{same_Some}
+use Rattle.std.proofs.Props.{props}
+use Rattle.std.proofs.lemmas.Option.{same_Some, slice_get_read}
+use Rattle.tick_plan.proofs.Untold.{known₂}
 use Rattle.rational_time.specs.declared.ratio.Ratio.{Ratio}
 use Rattle.rational_time.specs.Fraction.{AtMost, IsFraction}
 use Rattle.rational_time.specs.Multiple.{HasMultipleBelow}
@@ -14,25 +16,32 @@ use Rattle.tick_plan.specs.declared.course.Course.{Course}
 use Rattle.tick_plan.specs.Axis.{IsKey, IsLimit}
 use Rattle.tick_plan.specs.Course.{AreRows, IsRow, IsPeriodic, IsTickOf, IsTickIn, IsFirstOf, IsWithin, NextIs, TickAhead, earlier_of}
 use Rattle.tick_plan.specs.Fraction.{IsWhole}
-use Rattle.tick_plan.specs.Grid.{IsBeforeLimit}
+use Rattle.tick_plan.specs.Grid.{AreUnits, IsBeforeLimit}
 use Rattle.tick_plan.specs.Making.{IsCommonOf}
 use Rattle.tick_plan.proofs.Firsts.{within_units, units_within}
 use Rattle.tick_plan.proofs.Keys.{tick_in_units, units_are_tick, after_units, units_after}
 use Rattle.tick_plan.proofs.Nexts.{earlier_first}
 
--- an instant that is not after the stop is before the first number of units past it
-pub before_limit : (given : Option Moment) (stop : Ratio) (den limit : ℕ) → 0 < den → IsLimit den stop limit → IsWithin given stop → IsBeforeLimit given den limit
-before_limit None stop den limit grain limit_is within = tt
-before_limit (Some Initial) stop den limit grain limit_is within = tt
-before_limit (Some (At t)) stop den limit grain limit_is within = ⊎_elim (λ lt. lt) (λ le. absurd (later le)) (either (t.num * den) (limit * t.den))
-  where
-    either : (i j : ℕ) → (i < j) ⊎ (j ≤ i)
-    either i j = grind arith
+either : (i j : ℕ) → (i < j) ⊎ (j ≤ i)
+either i j = grind arith
 
+-- an instant that is not after the stop is before the first number of units past it
+at_before : (t stop : Ratio) (den limit : ℕ) → IsLimit den stop limit → AtMost t stop → t.num * den < limit * t.den
+at_before t stop den limit limit_is within = ⊎_elim (λ lt. lt) (λ le. absurd (later le)) (either (t.num * den) (limit * t.den))
+  where
     later : limit * t.den ≤ t.num * den → ⊥
     later le =
         let reach : limit * stop.den ≤ stop.num * den = le_of_mul-le-mul_right {k = t.den} (omega (arith, mul-le-mul_right stop.den le, mul-le-mul_right den within)) t.positive in
         let lt = (limit_is limit).1 reach in omega (arith, lt)
+
+pub before_limit : (given : Option Moment) (stop : Ratio) (den limit : ℕ) → ∥ IsLimit den stop limit ∥₁ → ∥ IsWithin given stop ∥₁ → IsBeforeLimit given den limit
+before_limit None stop den limit limit_is within = tt
+before_limit (Some Initial) stop den limit limit_is within = tt
+before_limit (Some (At t)) stop den limit limit_is within = known₂ (hlevel props) (at_before t stop den limit) limit_is within
+
+-- an element of a slice that is a list
+pub found : (clocks items : List Clock) (n : ℕ) (clock : Clock) → items ≡ clocks → n < length items → clock ≡ get_or items n clock → slice_get clocks n ≡ Some clock
+found clocks items n clock same lt is = ap (λ xs. slice_get xs n) (sym same) ∙ slice_get_read items (length items) n clock refl lt is
 
 -- the key of a clock is its first tick
 pub key_first : (den limit key step : ℕ) (period start stop : Ratio) (given : Option Moment) → 0 < den → IsLimit den stop limit → IsKey den limit period start given key step → key < limit → (t : Ratio) → IsFraction t key den
@@ -128,3 +137,10 @@ whole_initial c is none =
       early = is.early;
       within = tt;
     }
+
+-- there is a number of units within each stop, 0
+pub limit_some : (den : ℕ) (stop : Ratio) (limit : ℕ) → IsLimit den stop limit → 0 < limit
+limit_some den stop limit is = (is 0).1 (omega arith)
+
+pub step_above : (den limit : ℕ) (period start : Ratio) (first step : ℕ) → AreUnits den limit period start first step → 0 < limit → 0 < step
+step_above den limit period start first step is some = let one = is.step_is in let a = is.some in omega (arith, one, a, some)

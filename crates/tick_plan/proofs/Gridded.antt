@@ -124,3 +124,6 @@ scaled_still old new firsts steps same is = subst (λ x. ∥ IsScaled x new.den 
 -- and so does their least common denominator
 pub least_still : (old new : Axis) → IsSameAxis old new → ∥ IsLeastMultiple (denominators old.course.clocks) old.den ∥₁ → ∥ IsLeastMultiple (denominators new.course.clocks) new.den ∥₁
 least_still old new same is = subst (λ x. ∥ IsLeastMultiple (denominators x) new.den ∥₁) (sym same.course.clocks) (subst (λ x. ∥ IsLeastMultiple (denominators old.course.clocks) x ∥₁) (sym same.den) is)
+
+pub first_within : (clocks : List Clock) (den limit : ℕ) (firsts steps : List ℕ) (class : ℕ) (period start : Ratio) → ∥ IsScaled clocks den limit firsts steps ∥₁ → slice_get clocks class ≡ Some (Periodic period start) → get_or firsts class 0 ≤ limit
+first_within clocks den limit firsts steps class period start scaled clock = known (hlevel props) (λ s. let u = s.units class period start clock in let is = u.first_is in omega (arith, is)) scaled

@@ -3,6 +3,7 @@ pub mod Counted
 pub mod Counts
 pub mod FewInstants
 pub mod Firsts
+pub mod FractionTicks
 pub mod Fractions
 pub mod Gridded
 pub mod Growing
@@ -11,11 +12,13 @@ pub mod LeafLaws
 pub mod NewPlans
 pub mod NextKeys
 pub mod Nexts
+pub mod OneAnswer
 pub mod Passing
 pub mod Planning
 pub mod Premises
 pub mod Rows
 pub mod FirstPlaces
 pub mod Steps
+pub mod TicksLeft
 pub mod Times
 pub mod Untold

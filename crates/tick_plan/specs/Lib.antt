@@ -6,5 +6,7 @@ pub mod Leaves
 pub mod Left
 pub mod Making
 pub mod NewPlan
+pub mod NextTick
 pub mod Plans
 pub mod Seen
+pub mod SeenFractions

@@ -28,6 +28,7 @@ pub(crate) fn with_clock(den: u64, period: Ratio, start: Ratio) -> u64
     ensures period { period.den ∣ result }
     ensures start { start.den ∣ result }
     ensures least { (m : ℕ) → den ∣ m → period.den ∣ m → start.den ∣ m → result ∣ m }
+    ensures small { result < 2 ^ 40 }
 {
     common(common(den, period.den()), start.den())
 }

@@ -3,16 +3,18 @@ ghost use Rattle.flat_model.specs.Runnable.{AreClocks, denominators};
 ghost use Rattle.flat_model.specs.Tables.{IsTableOf, IsTime};
 ghost use Rattle.tick_plan.specs.Making.{IsLeastMultiple};
 ghost use Rattle.tick_plan.specs.NewPlan.{IsPlanOf};
+ghost use Rattle.tick_plan.specs.NextTick.{NextTickIs};
 ghost use Rattle.tick_plan.specs.Seen.{grid_seen};
 
 use crate::common::common_den;
 use crate::grid_plan::GridPlan;
 use crate::leaves::scaled;
 use crate::making::limit_of;
+use crate::next_units::next_units;
 use crate::plan_end::PlanEnd;
 use crate::planned::counted;
 use crate::starting::{first_axis, first_course};
-use flat_model::{Clocking, FlatModel, Table};
+use flat_model::{Clock, Clocking, FlatModel, Table};
 use rational_time::Ratio;
 use std::alloc::Global;
 
@@ -60,5 +62,35 @@ impl GridPlan {
         ensures { ∥ IsLeastMultiple (denominators (grid_seen self.now).clocks) result ∥₁ }
     {
         self.axis.den
+    }
+
+    /// The first tick of a class after the moment given last, counted in units of one over `denominator`; where no moment was
+    /// given yet, its first tick of all. `None` comes exactly where the class has no clock in seconds, or no such tick is up
+    /// to the stop.
+    pub fn next_tick(&self, class: u32) -> Option<u64>
+        ensures { ∥ NextTickIs (grid_seen self.now) class result ∥₁ }
+    {
+        let Some(clock) = self.axis.course.clocks.get(class as usize) else {
+            return None;
+        };
+        match *clock {
+            Clock::Periodic { .. } => {
+                let firsts = self.firsts.as_slice();
+                let steps = self.steps.as_slice();
+                let units = next_units(
+                    self.axis.course.given,
+                    self.axis.den,
+                    firsts[class as usize],
+                    steps[class as usize],
+                    self.axis.limit,
+                );
+                if units < self.axis.limit {
+                    Some(units)
+                } else {
+                    None
+                }
+            }
+            Clock::Event { .. } => None,
+        }
     }
 }

@@ -9,6 +9,10 @@ mod axis;
 mod common;
 mod counting;
 mod course;
+mod fraction;
+mod fraction_new;
+mod fraction_plan;
+mod fraction_stepping;
 mod grid_new;
 mod grid_plan;
 mod leaves;
@@ -21,6 +25,7 @@ mod stepping;
 mod ticks;
 mod traits;
 
+pub use fraction_plan::FractionPlan;
 pub use grid_plan::GridPlan;
 pub use plan_end::PlanEnd;
 pub use traits::{TickSource, Ticking};

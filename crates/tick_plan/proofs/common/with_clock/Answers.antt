@@ -1,7 +1,9 @@
-use Rattle.std.proofs.Common.{◌≡◌, ◌∙◌, sym, subst, arith, ◌<◌, ◌∷◌, []}
+use Rattle.std.proofs.Common.{◌≡◌, ◌∙◌, sym, subst, arith, ◌<◌, ◌≤◌, ◌^◌, ◌∷◌, []}
 use Rattle.rational_time.specs.Multiple.{IsLcm, HasMultipleBelow}
 use Rattle.rational_time.proofs.Multiples.{IsLcm-positive}
-use Rattle.tick_plan.proofs.Untold.{lift}
+use Rattle.std.proofs.Props.{props}
+use Rattle.std.proofs.lemmas.Nat.Gcd.{le_of_dvd}
+use Rattle.tick_plan.proofs.Untold.{lift, known}
 use Rattle.tick_plan.proofs.Commons.{first_two, with_third, three_lcm}
 use Rattle.tick_plan.proofs.common.with_clock.Goals as goal
 
@@ -29,3 +31,8 @@ returns-clause-start c = (three_lcm c.args.den c.args.period.den c.args.start.de
 
 pub returns-clause-least : goal.returns-clause-least
 returns-clause-least c = (three_lcm c.args.den c.args.period.den c.args.start.den c.common.result c.common-2.result (rw c.den.ensures at c.common.ensures) (rw c.den-2.ensures at c.common-2.ensures)).3
+
+pub returns-clause-small : goal.returns-clause-small
+returns-clause-small c =
+    let least = (three_lcm c.args.den c.args.period.den c.args.start.den c.common.result c.common-2.result (rw c.den.ensures at c.common.ensures) (rw c.den-2.ensures at c.common-2.ensures)).3 in
+    known (hlevel props) (λ h. let le = le_of_dvd h.positive (least h.multiple h.divided.0 h.divided.1.0 h.divided.1.1.0) in let below = h.below in omega (arith, le, below)) c.requires.within
