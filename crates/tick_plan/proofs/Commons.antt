@@ -1,15 +1,14 @@
 -- Common multiples of the denominators of clocks.
 use Rattle.std.proofs.lemmas.Option.{same_Some, none-some}
-use Rattle.std.proofs.Common.{◌≡◌, ◌∙◌, refl, ap, sym, subst, ℕ, zero, suc, ◌+◌, ◌<◌, ◌≤◌, ◌^◌, List, [], ◌∷◌, length, slice_get, Some, ⊎_elim, ◌⊎◌, arith}
+use Rattle.std.proofs.Common.{◌≡◌, ◌∙◌, refl, ap, sym, subst, ℕ, zero, suc, ◌+◌, ◌<◌, ◌^◌, List, [], ◌∷◌, slice_get, Some, ⊎_elim, ◌⊎◌, arith}
 use Rattle.std.specs.Int.{◌∣◌}
 use Rattle.std.proofs.lemmas.Nat.Gcd.{dvd_trans}
 use Rattle.rational_time.specs.declared.ratio.Ratio.{Ratio}
 use Rattle.flat_model.specs.declared.clock.Clock.{Clock}
 use Rattle.flat_model.specs.declared.clock.Clock.TheVariants.{Periodic, Event}
 use Rattle.flat_model.specs.Runnable.{denominators}
-use Rattle.tick_plan.specs.Making.{IsCommon, IsCommonOf, IsLeastMultiple}
+use Rattle.tick_plan.specs.Making.{IsCommonOf, IsLeastMultiple}
 use Rattle.rational_time.specs.Multiple.{IsLcm, HasMultipleBelow, AllDivide}
-use Rattle.rational_time.proofs.Multiples.{IsLcm-positive}
 
 pub first_two : (a b d : ℕ) → HasMultipleBelow (2 ^ 40) (a ∷ b ∷ d ∷ []) → HasMultipleBelow (2 ^ 40) (a ∷ b ∷ [])
 first_two a b d h = record { multiple = h.multiple; positive = h.positive; below = h.below; divided = (h.divided.0, (h.divided.1.0, tt)) }

@@ -1,12 +1,12 @@
 -- The instants of a run are a list, and there is at most one of them more than rows and ticks.
-use Rattle.std.proofs.Common.{◌≡◌, refl, sym, subst, ap, ◌∙◌, ℕ, zero, suc, ◌+◌, ◌*◌, ◌<◌, ◌≤◌, ◌⊎◌, inl, inr, ⊎_elim, List, [], ◌∷◌, length, get_or, slice_get, Option, Some, None, Any, All, Bool, true, false, le-leb, if◌then◌else◌, arith, mul-le-mul_right, mul-lt-mul_of_pos_right, lt_of_mul-lt-mul_right, le_of_mul-le-mul_right, mul-pos}
+use Rattle.std.proofs.Common.{◌≡◌, refl, sym, subst, ap, ◌∙◌, ℕ, zero, suc, ◌+◌, ◌*◌, ◌<◌, ◌≤◌, ◌⊎◌, inl, inr, ⊎_elim, List, [], ◌∷◌, length, get_or, slice_get, Some, None, Any, Bool, true, false, le-leb, if◌then◌else◌, arith, mul-le-mul_right, le_of_mul-le-mul_right, mul-pos}
 use Rattle.std.proofs.lemmas.Option.{none-some, same_Some, slice_get_read, get_or_from_slice_get, slice_get_within, slice_get-get_or}
 use Rattle.rational_time.specs.declared.ratio.Ratio.{Ratio}
 use Rattle.rational_time.specs.Fraction.{Same, Below, AtMost, at_most, IsTick, IsTickWithin, IsFraction}
-use Rattle.rational_time.proofs.Order.{cross_lt_le_trans, cross_le_lt_trans, cross_same_trans}
+use Rattle.rational_time.proofs.Order.{cross_lt_le_trans, cross_same_trans}
 use Rattle.flat_model.specs.declared.clock.Clock.{Clock}
 use Rattle.flat_model.specs.declared.clock.Clock.TheVariants.{Periodic, Event}
-use Rattle.flat_model.specs.Moments.{IsDue, IsRising, TicksAt, AreInstants}
+use Rattle.flat_model.specs.Moments.{IsRising, TicksAt, AreInstants}
 use Rattle.flat_model.specs.Plan.{HaveTicks, rows_within}
 use Rattle.std.proofs.lemmas.Bool.{false≢true}
 use Rattle.std.proofs.lemmas.List.Sums.{sum_by-cons}
@@ -136,14 +136,14 @@ module _ (stop : Ratio) where
   with_ticks P period start (suc n) m old =
       let t = ratio_of (start.num * period.den + n * period.num * start.den) (start.den * period.den) (mul-pos start.positive period.positive) in
       wider (λ x. ((k : ℕ) × (k < suc n) × IsTick period start k x) ⊎ P x) (suc (n + m)) (suc n + m) (omega arith) (said (λ x. Same x t.0 ⊎ (((k : ℕ) × (k < n) × IsTick period start k x) ⊎ P x)) (λ x. ((k : ℕ) × (k < suc n) × IsTick period start k x) ⊎ P x) (suc (n + m))
-          (λ x le h. ⊎_elim (λ same. inl (n, omega arith, cross_same_trans x.num x.den t.0.num t.0.den (start.num * period.den + n * period.num * start.den) (start.den * period.den) t.0.positive same t.1))
-              (λ others. ⊎_elim (λ tick. inl (tick.0, omega (arith, tick.1), tick.2)) (λ p. inr p) others) h)
-          (λ x le h. ⊎_elim (λ tick. ⊎_elim
-                  (λ here. inl (let at : IsTick period start n x = subst (λ k. IsTick period start k x) here tick.2 in
-                      cross_same_trans x.num x.den (start.num * period.den + n * period.num * start.den) (start.den * period.den) t.0.num t.0.den (mul-pos start.positive period.positive) at (sym t.1)))
-                  (λ before. inr (inl (tick.0, before, tick.2))) (last_or_before tick.0 n tick.1))
-              (λ p. inr (inr p)) h)
-          (one_more (λ x. ((k : ℕ) × (k < n) × IsTick period start k x) ⊎ P x) t.0 (n + m) (with_ticks P period start n m old)))
+      (λ x le h. ⊎_elim (λ same. inl (n, omega arith, cross_same_trans x.num x.den t.0.num t.0.den (start.num * period.den + n * period.num * start.den) (start.den * period.den) t.0.positive same t.1))
+      (λ others. ⊎_elim (λ tick. inl (tick.0, omega (arith, tick.1), tick.2)) (λ p. inr p) others) h)
+      (λ x le h. ⊎_elim (λ tick. ⊎_elim
+      (λ here. inl (let at : IsTick period start n x = subst (λ k. IsTick period start k x) here tick.2 in
+      cross_same_trans x.num x.den (start.num * period.den + n * period.num * start.den) (start.den * period.den) t.0.num t.0.den (mul-pos start.positive period.positive) at (sym t.1)))
+      (λ before. inr (inl (tick.0, before, tick.2))) (last_or_before tick.0 n tick.1))
+      (λ p. inr (inr p)) h)
+      (one_more (λ x. ((k : ℕ) × (k < n) × IsTick period start k x) ⊎ P x) t.0 (n + m) (with_ticks P period start n m old)))
     where
       last_or_before : (i j : ℕ) → i < suc j → (i ≡ j) ⊎ (i < j)
       last_or_before i j lt = grind arith
@@ -160,14 +160,14 @@ module _ (stop : Ratio) where
   with_clocks P rows [] n m have old = wider (λ x. TicksOf [] x ⊎ P x) m (n + m) (omega arith) (said P (λ x. TicksOf [] x ⊎ P x) m (λ x le p. inr p) (λ x le q. ⊎_elim (λ none. absurd none) (λ p. p) q) old)
   with_clocks P rows (Event site factor shift ∷ clocks) n m have old = wider (λ x. TicksOf (Event site factor shift ∷ clocks) x ⊎ P x) (have.1 + m) (n + m) (omega (arith, have.4))
       (said (λ x. TicksOf clocks x ⊎ P x) (λ x. TicksOf (Event site factor shift ∷ clocks) x ⊎ P x) (have.1 + m)
-          (λ x le h. ⊎_elim (λ others. inl (inr others)) (λ p. inr p) h)
-          (λ x le h. ⊎_elim (λ ticks. ⊎_elim (λ none. absurd none) (λ others. inl others) ticks) (λ p. inr p) h)
-          (with_clocks P rows clocks have.1 m have.3 old))
+      (λ x le h. ⊎_elim (λ others. inl (inr others)) (λ p. inr p) h)
+      (λ x le h. ⊎_elim (λ ticks. ⊎_elim (λ none. absurd none) (λ others. inl others) ticks) (λ p. inr p) h)
+      (with_clocks P rows clocks have.1 m have.3 old))
   with_clocks P rows (Periodic period start ∷ clocks) n m have old = wider (λ x. TicksOf (Periodic period start ∷ clocks) x ⊎ P x) (have.0 + (have.1 + m)) (n + m) (omega (arith, have.4))
       (said (λ x. ((k : ℕ) × (k < have.0) × IsTick period start k x) ⊎ (TicksOf clocks x ⊎ P x)) (λ x. TicksOf (Periodic period start ∷ clocks) x ⊎ P x) (have.0 + (have.1 + m))
-          (λ x le h. ⊎_elim (λ tick. inl (inl (tick.0, tick.2))) (λ others. ⊎_elim (λ more. inl (inr more)) (λ p. inr p) others) h)
-          (λ x le h. ⊎_elim (λ ticks. ⊎_elim (λ tick. inl (tick.0, (have.2 tick.0).1 (reaches period start x tick.0 tick.1 le), tick.1)) (λ more. inr (inl more)) ticks) (λ p. inr (inr p)) h)
-          (with_ticks (λ x. TicksOf clocks x ⊎ P x) period start have.0 (have.1 + m) (with_clocks P rows clocks have.1 m have.3 old)))
+      (λ x le h. ⊎_elim (λ tick. inl (inl (tick.0, tick.2))) (λ others. ⊎_elim (λ more. inl (inr more)) (λ p. inr p) others) h)
+      (λ x le h. ⊎_elim (λ ticks. ⊎_elim (λ tick. inl (tick.0, (have.2 tick.0).1 (reaches period start x tick.0 tick.1 le), tick.1)) (λ more. inr (inl more)) ticks) (λ p. inr (inr p)) h)
+      (with_ticks (λ x. TicksOf clocks x ⊎ P x) period start have.0 (have.1 + m) (with_clocks P rows clocks have.1 m have.3 old)))
 
   nothing : Holds (Within (λ x. ⊥)) 0
   nothing = record { list = []; rising = tt; each = λ x at. absurd at; all = λ x is. is.1; few = omega arith }
@@ -223,12 +223,15 @@ any_of P xs k x is holds = (k, x, slice_get_within xs k x is, get_or_from_slice_
 
 pub left_exists : (clocks : List Clock) (times : List Ratio) (stop : Ratio) (rows n : ℕ) → HaveTicks stop rows clocks n → (ts : List Ratio) × AreLeft clocks times stop None ts × (length ts ≤ n + (rows_within times stop + 1))
 left_exists clocks times stop rows n have =
-    let held = with_clocks stop (λ x. Among x times ⊎ ((x.num ≡ 0) ⊎ ⊥)) rows clocks n (rows_within times stop + 1) have (with_rows stop (λ x. (x.num ≡ 0) ⊎ ⊥) times 1 (only_zero stop)) in
-    (held.list, record {
-      rising = held.rising;
-      each = λ j t is. let h = held.each t (at_among t held.list j t is refl) in (record { within = h.0; cause = cause_of t h.1 }, tt);
-      all = λ t due later. among_at t held.list (held.all t (due.within, of_cause t due.cause));
-    }, held.few)
+    let held = with_clocks stop (λ x. Among x times ⊎ ((x.num ≡ 0) ⊎ ⊥)) rows clocks n (rows_within times stop + 1) have (with_rows stop (λ x. (x.num ≡ 0) ⊎ ⊥) times 1 (only_zero stop)) in (
+      held.list,
+      record {
+        rising = held.rising;
+        each = λ j t is. let h = held.each t (at_among t held.list j t is refl) in (record { within = h.0; cause = cause_of t h.1 }, tt);
+        all = λ t due later. among_at t held.list (held.all t (due.within, of_cause t due.cause));
+      },
+      held.few,
+    )
   where
     cause_of : (x : Ratio) → TicksOf stop clocks x ⊎ (Among x times ⊎ ((x.num ≡ 0) ⊎ ⊥)) → (x.num ≡ 0) ⊎ Any (Same x) times ⊎ Any (TicksAt x) clocks
     cause_of x h = ⊎_elim (λ ticks. let c = clock_at stop x clocks ticks in inr (inr (any_of (TicksAt x) clocks c.0 c.1 c.2 c.3)))

@@ -1,8 +1,7 @@
 -- The keys and the place before the first moment.
 use Rattle.std.proofs.lemmas.Option.{slice_get-get_or}
-use Rattle.std.proofs.Common.{Contains, ◌≡◌, refl, sym, subst, ap, ◌∙◌, ℕ, zero, suc, ◌+◌, ◌*◌, ◌<◌, ◌≤◌, ◌↔◌, List, length, get_or, slice_get, min, Option, Some, None, arith, mul-pos}
+use Rattle.std.proofs.Common.{Contains, ◌≡◌, refl, sym, subst, ap, ◌∙◌, ℕ, zero, suc, ◌+◌, ◌*◌, ◌<◌, ◌≤◌, List, length, get_or, slice_get, min, Some, None, arith, mul-pos}
 use Rattle.rational_time.specs.declared.ratio.Ratio.{Ratio}
-use Rattle.rational_time.specs.Fraction.{Below}
 use Rattle.flat_model.specs.declared.clock.Clock.{Clock}
 use Rattle.tick_tree.specs.Tree.{IsTree, leaf_of}
 use Rattle.tick_plan.specs.Grid.{AreUnits, CountsTo, HaveFactors, IsScaled}
@@ -92,14 +91,14 @@ module _ (c : Course) (den limit : ℕ) (nodes firsts steps keys strides : List 
   pub first_placed : IsPlaced c den limit nodes strides
   first_placed = subst (λ x. IsPlaced x den limit nodes strides) (sym (course_is c.clocks c.times c.stop c first))
       (placed_first c.clocks c.times c.stop den limit nodes strides tree (omega (arith, long, keys_long, strides_long)) grain limit_is (rising_from_zero c.times times)
-          (λ j lt.
-              let leaf = get_or leaves j (leaf_at firsts steps 0) in
-              let at : slice_get leaves j ≡ Some leaf = slice_get-get_or leaves j (leaf_at firsts steps 0) (omega (arith, lt, strides_long)) in
-              let of = each leaf (has leaves j leaf at) in
-              (of.clock, of.period, of.start, of.is, units_at j of.clock of.period of.start leaf lt at of.leaf_is of.is))
-          (λ i period start is.
-              let h = all i period start is in
-              (h.0, omega (arith, h.1, strides_long), units_at h.0 i period start (leaf_at firsts steps i) (omega (arith, h.1, strides_long)) (placed leaves h.0 (leaf_at firsts steps i) h.1 h.2) refl is)))
+      (λ j lt.
+      let leaf = get_or leaves j (leaf_at firsts steps 0) in
+      let at : slice_get leaves j ≡ Some leaf = slice_get-get_or leaves j (leaf_at firsts steps 0) (omega (arith, lt, strides_long)) in
+      let of = each leaf (has leaves j leaf at) in
+      (of.clock, of.period, of.start, of.is, units_at j of.clock of.period of.start leaf lt at of.leaf_is of.is))
+      (λ i period start is.
+      let h = all i period start is in
+      (h.0, omega (arith, h.1, strides_long), units_at h.0 i period start (leaf_at firsts steps i) (omega (arith, h.1, strides_long)) (placed leaves h.0 (leaf_at firsts steps i) h.1 h.2) refl is)))
 
 -- a course before its first moment, whose clocks can be counted
 pub first_whole : (clocks : List Clock) (times : List Ratio) (stop : Ratio) (c : Course) → IsFirstCourse clocks times stop c → AreTimes times → AreCountable clocks → HaveFactors clocks → IsCommonOf clocks → IsTime stop → IsWhole c

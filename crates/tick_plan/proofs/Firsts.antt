@@ -1,13 +1,13 @@
 -- The root of the tree is the first tick after the moment given last.
-use Rattle.std.proofs.Common.{◌≡◌, refl, sym, subst, ap, ◌∙◌, ℕ, ◌+◌, ◌*◌, ◌<◌, ◌≤◌, List, length, get_or, Option, Some, None, arith, mul-le-mul_right, le_of_mul-le-mul_right}
+use Rattle.std.proofs.Common.{◌≡◌, sym, subst, ap, ◌∙◌, ℕ, ◌+◌, ◌*◌, ◌<◌, ◌≤◌, List, length, get_or, Some, None, arith, mul-le-mul_right, le_of_mul-le-mul_right}
 use Rattle.rational_time.specs.declared.ratio.Ratio.{Ratio}
-use Rattle.rational_time.specs.Fraction.{AtMost, IsFraction}
+use Rattle.rational_time.specs.Fraction.{IsFraction}
 use Rattle.tick_plan.specs.declared.axis.Axis.{Axis}
 use Rattle.flat_model.specs.NextInstant.{IsAfter, AreUnitsAfter}
 use Rattle.tick_tree.specs.Tree.{leaf_of}
 use Rattle.tick_tree.proofs.Roots.{root_least, attained}
 use Rattle.tick_plan.specs.Course.{IsTickOf, TickAhead}
-use Rattle.tick_plan.specs.Axis.{IsKey, IsAxis}
+use Rattle.tick_plan.specs.Axis.{IsAxis}
 use Rattle.tick_plan.proofs.Keys.{tick_in_units, units_are_tick, after_units, units_after}
 
 -- an instant of u units that is within the stop, and back
@@ -55,8 +55,11 @@ tick_some a is some below =
 
 -- an instant of that many units is the first tick
 pub first_made : (a : Axis) → IsAxis a → (u : ℕ) → IsFirstUnits a u → (t : Ratio) → IsFraction t u a.den → TickAhead a.course (Some t)
-first_made a is u first t at = (first.ticks t at, units_after a.course.given t a.den u at first.later,
-    λ v due later. let le = first.least v due later in le_of_mul-le-mul_right {k = a.den} (omega (arith, ap (λ z. z * v.den) at, mul-le-mul_right t.den le)) is.grain)
+first_made a is u first t at = (
+  first.ticks t at,
+  units_after a.course.given t a.den u at first.later,
+  λ v due later. let le = first.least v due later in le_of_mul-le-mul_right {k = a.den} (omega (arith, ap (λ z. z * v.den) at, mul-le-mul_right t.den le)) is.grain,
+)
 
 pub tick_none : (a : Axis) → IsAxis a → a.limit ≤ get_or a.nodes.items 1 0 → TickAhead a.course None
 tick_none a is past t tick later =

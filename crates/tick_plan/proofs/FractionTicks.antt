@@ -21,7 +21,7 @@ module _ (c : Course) (class : ℕ) (period start : Ratio) where
   fraction_ticks t den limit first step whole clock given grain limit_is f s =
       let set : IsSet Bool = hlevel props in
       known (set _ _) (λ is. grid_law den limit first step period start c.stop t grain (units_are den limit period start first step grain (is.countable class period start clock).moving f s) limit_is
-          (subst (λ g. IsWithin g c.stop) given is.within)) whole
+      (subst (λ g. IsWithin g c.stop) given is.within)) whole
 
   pub step_of : (den limit first step : ℕ) → ∥ IsWhole c ∥₁ → slice_get c.clocks class ≡ Some (Periodic period start) → 0 < den → IsLimit den c.stop limit → CountsTo den limit start first → CountsTo den limit period step → 0 < step
   step_of den limit first step whole clock grain limit_is f s =

@@ -1,5 +1,5 @@
 -- The first tick of one clock and of all, each counted in its own denominators.
-use Rattle.std.proofs.Common.{◌≡◌, refl, sym, subst, ap, ◌∙◌, ℕ, suc, ◌+◌, ◌*◌, ◌<◌, ◌≤◌, ◌^◌, ◌⊎◌, inl, inr, ⊎_elim, List, [], ◌∷◌, length, get_or, slice_get, Option, Some, None, arith, mul-le-mul_right, le_of_mul-le-mul_right}
+use Rattle.std.proofs.Common.{◌≡◌, refl, sym, subst, ap, ◌∙◌, ℕ, ◌+◌, ◌*◌, ◌<◌, ◌≤◌, ◌^◌, ◌⊎◌, inl, inr, ⊎_elim, List, [], ◌∷◌, length, get_or, slice_get, Option, Some, None, arith, mul-le-mul_right, le_of_mul-le-mul_right}
 use Rattle.std.proofs.Math.Nat.{one-dvd}
 use Rattle.std.proofs.Props.{props}
 use Rattle.std.proofs.lemmas.Option.{same_Some, slice_get_read}
@@ -8,13 +8,13 @@ use Rattle.rational_time.specs.declared.ratio.Ratio.{Ratio}
 use Rattle.rational_time.specs.Fraction.{AtMost, IsFraction}
 use Rattle.rational_time.specs.Multiple.{HasMultipleBelow}
 use Rattle.flat_model.specs.declared.clock.Clock.{Clock}
-use Rattle.flat_model.specs.declared.clock.Clock.TheVariants.{Periodic, Event}
+use Rattle.flat_model.specs.declared.clock.Clock.TheVariants.{Periodic}
 use Rattle.flat_model.specs.declared.clock.Moment.{Moment}
 use Rattle.flat_model.specs.declared.clock.Moment.TheVariants.{Initial, At}
-use Rattle.flat_model.specs.NextInstant.{IsAfter, IsNext}
+use Rattle.flat_model.specs.NextInstant.{IsNext}
 use Rattle.tick_plan.specs.declared.course.Course.{Course}
 use Rattle.tick_plan.specs.Axis.{IsKey, IsLimit}
-use Rattle.tick_plan.specs.Course.{AreRows, IsRow, IsPeriodic, IsTickOf, IsTickIn, IsFirstOf, IsWithin, NextIs, TickAhead, earlier_of}
+use Rattle.tick_plan.specs.Course.{IsRow, IsPeriodic, IsTickOf, IsTickIn, IsFirstOf, IsWithin, TickAhead, earlier_of}
 use Rattle.tick_plan.specs.Fraction.{IsWhole}
 use Rattle.tick_plan.specs.Grid.{AreUnits, IsBeforeLimit}
 use Rattle.tick_plan.specs.Making.{IsCommonOf}
@@ -83,9 +83,9 @@ pub first_more : (c : Course) (n : ℕ) (period start : Ratio) (a b : Option Rat
 first_more c n period start a b at old own = said (λ t. IsTickBelow c n t ⊎ IsTickIn period start c.stop t) (IsTickBelow c (n + 1)) c.given (earlier_of a b)
     (λ t h. ⊎_elim (λ tick. (tick.0, omega (arith, tick.1))) (λ tick. (record { clock = n; period = period; start = start; is = at; k = tick.0; at = tick.1; within = tick.2 }, omega arith)) h)
     (λ t tick. ⊎_elim
-        (λ here. inr (own_tick t tick.0 here))
-        (λ before. inl (tick.0, before))
-        (last_or_before tick.0.clock n tick.1))
+    (λ here. inr (own_tick t tick.0 here))
+    (λ before. inl (tick.0, before))
+    (last_or_before tick.0.clock n tick.1))
     (earlier_first (IsTickBelow c n) (IsTickIn period start c.stop) c.given a b old own)
   where
     same_parts : (p s q r : Ratio) → Periodic p s ≡ Periodic q r → (p ≡ q) × (s ≡ r)
@@ -101,9 +101,9 @@ pub first_still : (c : Course) (n : ℕ) (clock : Clock) (a : Option Ratio) → 
 first_still c n clock a at other old = said (IsTickBelow c n) (IsTickBelow c (n + 1)) c.given a
     (λ t tick. (tick.0, omega (arith, tick.1)))
     (λ t tick. ⊎_elim
-        (λ here. absurd (other tick.0.period tick.0.start (same_Some _ _ (sym at ∙ ap (slice_get c.clocks) (sym here) ∙ tick.0.is))))
-        (λ before. (tick.0, before))
-        (last_or_before tick.0.clock n tick.1))
+    (λ here. absurd (other tick.0.period tick.0.start (same_Some _ _ (sym at ∙ ap (slice_get c.clocks) (sym here) ∙ tick.0.is))))
+    (λ before. (tick.0, before))
+    (last_or_before tick.0.clock n tick.1))
     old
 
 -- all clocks

@@ -1,9 +1,9 @@
 -- The test of a tick in units is the test of a tick.
-use Rattle.std.proofs.Common.{◌≡◌, refl, sym, subst, ap, ap₂, ◌∙◌, ℕ, zero, suc, ◌+◌, ◌-◌, ◌*◌, ◌/◌, ◌%◌, ◌<◌, ◌≤◌, ◌⊎◌, ⊎_elim, ◌↔◌, ◌==◌, ◌&&◌, nat_le, Bool, true, false, List, get_or, slice_get, Option, Some, min, arith, le-leb, leb-true, eq-eqb, div-add-mod', mul-le-mul_right}
-use Rattle.std.proofs.lemmas.Bool.{and_from, and_parts, eqb-true, false≢true}
+use Rattle.std.proofs.Common.{◌≡◌, refl, sym, subst, ap, ◌∙◌, ℕ, zero, suc, ◌+◌, ◌-◌, ◌*◌, ◌/◌, ◌%◌, ◌<◌, ◌≤◌, ◌⊎◌, ⊎_elim, ◌↔◌, Bool, true, false, List, get_or, slice_get, Some, min, arith, le-leb, leb-true, eq-eqb, div-add-mod'}
+use Rattle.std.proofs.lemmas.Bool.{and_from, and_parts, eqb-true}
 use Rattle.std.proofs.Math.Nat.{mul-mod_left, eq_of_mul-eq-mul_right}
 use Rattle.rational_time.specs.declared.ratio.Ratio.{Ratio}
-use Rattle.rational_time.specs.Fraction.{AtMost, IsTick}
+use Rattle.rational_time.specs.Fraction.{AtMost}
 use Rattle.flat_model.specs.Clocks.{is_tick}
 use Rattle.flat_model.specs.Runnable.{denominators}
 use Rattle.tick_plan.specs.Making.{IsLeastMultiple}
@@ -35,14 +35,14 @@ whole_quotient a b none = omega (arith, none, div-add-mod' a b)
 steps_periods : (u from every limit : ℕ) → u < limit → 0 < every → (u - min from limit) % min every limit ≡ 0 → min from limit ≤ u → (k : ℕ) × (u ≡ from + k * every)
 steps_periods u from every limit below some none after = ⊎_elim
     (λ small.
-        let step : min every limit ≡ every = omega (arith, small) in
-        let far : u - from ≡ (u - from) / every * every = whole_quotient (u - from) every (subst (λ s. (u - from) % s ≡ 0) step (subst (λ f. (u - f) % min every limit ≡ 0) first none)) in
-        ((u - from) / every, omega (arith, far, first, after)))
+    let step : min every limit ≡ every = omega (arith, small) in
+    let far : u - from ≡ (u - from) / every * every = whole_quotient (u - from) every (subst (λ s. (u - from) % s ≡ 0) step (subst (λ f. (u - f) % min every limit ≡ 0) first none)) in
+    ((u - from) / every, omega (arith, far, first, after)))
     (λ large.
-        let step : min every limit ≡ limit = omega (arith, large) in
-        let rest : (u - from) % limit ≡ 0 = subst (λ s. (u - from) % s ≡ 0) step (subst (λ f. (u - f) % min every limit ≡ 0) first none) in
-        let same : (u - from) % limit ≡ u - from = small_mod (u - from) limit (omega (arith, below)) in
-        (0, omega (arith, rest, same, first, after)))
+    let step : min every limit ≡ limit = omega (arith, large) in
+    let rest : (u - from) % limit ≡ 0 = subst (λ s. (u - from) % s ≡ 0) step (subst (λ f. (u - f) % min every limit ≡ 0) first none) in
+    let same : (u - from) % limit ≡ u - from = small_mod (u - from) limit (omega (arith, below)) in
+    (0, omega (arith, rest, same, first, after)))
     (either every limit)
   where
     first : min from limit ≡ from
@@ -52,16 +52,19 @@ steps_periods u from every limit below some none after = ⊎_elim
     small_mod a b lt = grind arith
 
 periods_steps : (u from every limit k : ℕ) → u < limit → 0 < every → u ≡ from + k * every → (min from limit ≤ u) × ((u - min from limit) % min every limit ≡ 0)
-periods_steps u from every limit k below some at = (omega (arith, at), ⊎_elim
-    (λ small.
-        let step : min every limit ≡ every = omega (arith, small) in
-        let far : u - min from limit ≡ k * every = omega (arith, at, first) in
-        rw (far, step) (mul-mod_left k every))
-    (λ large.
-        let none : k * every ≡ 0 = no_period k every limit large (omega (arith, at, below)) in
-        let far : u - min from limit ≡ 0 = omega (arith, at, first, none) in
-        rw far (zero_mod (min every limit)))
-    (either every limit))
+periods_steps u from every limit k below some at = (
+  omega (arith, at),
+  ⊎_elim
+      (λ small.
+      let step : min every limit ≡ every = omega (arith, small) in
+      let far : u - min from limit ≡ k * every = omega (arith, at, first) in
+      rw (far, step) (mul-mod_left k every))
+      (λ large.
+      let none : k * every ≡ 0 = no_period k every limit large (omega (arith, at, below)) in
+      let far : u - min from limit ≡ 0 = omega (arith, at, first, none) in
+      rw far (zero_mod (min every limit)))
+      (either every limit),
+)
   where
     first : min from limit ≡ from
     first = omega (arith, at, below)
@@ -98,7 +101,7 @@ module _ (den limit first step : ℕ) (period start stop t : Ratio) (grain : 0 <
       let quotient : (t.num * den) / t.den ≡ x = eq_of_mul-eq-mul_right t.den t.positive ((t.num * den) / t.den) x (sym whole ∙ at) in
       let parts = periods_steps ((t.num * den) / t.den) is.from is.every limit tick.0 (below ((t.num * den) / t.den) whole) is.some quotient in
       and_from _ _ (and_from _ _ (eq-eqb _ 0 none) (le-leb _ _ (subst (λ f. f ≤ (t.num * den) / t.den) (sym is.first_is) parts.0)))
-          (eq-eqb _ 0 (subst (λ s. ((t.num * den) / t.den - first) % s ≡ 0) (sym is.step_is) (subst (λ f. ((t.num * den) / t.den - f) % min is.every limit ≡ 0) (sym is.first_is) parts.1)))
+      (eq-eqb _ 0 (subst (λ s. ((t.num * den) / t.den - first) % s ≡ 0) (sym is.step_is) (subst (λ f. ((t.num * den) / t.den - f) % min is.every limit ≡ 0) (sym is.first_is) parts.1)))
 
   pub grid_law : grid_tick den first step t ≡ is_tick period start t
   grid_law = both_true _ _ grid_is is_grid

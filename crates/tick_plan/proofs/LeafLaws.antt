@@ -1,6 +1,5 @@
 -- Units of the classes and the leaves made from them.
-use Rattle.std.proofs.Common.{◌≡◌, ◌∙◌, refl, sym, subst, ap, ap₂, ℕ, zero, suc, ◌+◌, ◌<◌, ◌⊎◌, inl, inr, ⊎_elim, List, [], ◌∷◌, ◌++◌, length, get_or, slice_get, Option, Some, Bool, true, false, ◌==◌, ◌&&◌, Contains, arith, eq-eqb}
-use Rattle.std.specs.Int.{◌∣◌}
+use Rattle.std.proofs.Common.{◌≡◌, ◌∙◌, refl, sym, subst, ap, ap₂, ℕ, ◌+◌, ◌<◌, ⊎_elim, List, [], ◌∷◌, ◌++◌, length, get_or, slice_get, Some, Bool, true, false, ◌==◌, ◌&&◌, Contains, arith, eq-eqb}
 use Rattle.std.specs.Cmp.{IsEquivalence}
 use Rattle.std.specs.List.{dedup}
 use Rattle.std.proofs.lemmas.List.Kept.{Contains-dedup}
@@ -25,8 +24,8 @@ pub units_more : (clocks : List Clock) (den limit i : ℕ) (clock : Clock) (firs
     → (j : ℕ) (p s : Ratio) → j < i + 1 → slice_get clocks j ≡ Some (Periodic p s) → AreUnits den limit p s (get_or (firsts ++ first ∷ []) j 0) (get_or (steps ++ step ∷ []) j 0)
 units_more clocks den limit i clock firsts steps first step grain countable at long wide own before j p s lt is = ⊎_elim
     (λ here. let counts = own p s (same_Some _ _ (sym at ∙ ap (slice_get clocks) (sym here) ∙ is)) in
-        rw (at_end firsts first j (long ∙ sym here), at_end steps step j (wide ∙ sym here))
-            (units_are den limit p s first step grain (countable j p s is).moving counts.0 counts.1))
+    rw (at_end firsts first j (long ∙ sym here), at_end steps step j (wide ∙ sym here))
+    (units_are den limit p s first step grain (countable j p s is).moving counts.0 counts.1))
     (λ old. rw (before_end firsts first j (omega (arith, long, old)), before_end steps step j (omega (arith, wide, old))) (before j p s old is))
     (last_or_before j i lt)
 
@@ -91,6 +90,6 @@ pub parts_more : (leaves : List Leaf) (i : ℕ) (leaf : Leaf) (firsts steps : Li
     → (j : ℕ) (l : Leaf) → j < i + 1 → slice_get leaves j ≡ Some l → (get_or (firsts ++ leaf.first ∷ []) j 0 ≡ l.first) × (get_or (steps ++ leaf.step ∷ []) j 0 ≡ l.step)
 parts_more leaves i leaf firsts steps at long wide before j l lt is = ⊎_elim
     (λ here. let one : leaf ≡ l = same_Some _ _ (sym at ∙ ap (slice_get leaves) (sym here) ∙ is) in
-        (at_end firsts leaf.first j (long ∙ sym here) ∙ ap (λ x. x.first) one, at_end steps leaf.step j (wide ∙ sym here) ∙ ap (λ x. x.step) one))
+    (at_end firsts leaf.first j (long ∙ sym here) ∙ ap (λ x. x.first) one, at_end steps leaf.step j (wide ∙ sym here) ∙ ap (λ x. x.step) one))
     (λ old. let own = before j l old is in (before_end firsts leaf.first j (omega (arith, long, old)) ∙ own.0, before_end steps leaf.step j (omega (arith, wide, old)) ∙ own.1))
     (last_or_before j i lt)

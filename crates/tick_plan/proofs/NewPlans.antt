@@ -1,10 +1,9 @@
 -- A plan before its first moment has all moments of the run before it.
-use Rattle.std.proofs.Common.{◌≡◌, ◌∙◌, refl, sym, subst, ap, ℕ, zero, suc, ◌+◌, ◌<◌, ◌≤◌, ◌^◌, List, [], ◌∷◌, length, map, get_or, replicate, Option, Some, None, Bool, false, arith}
+use Rattle.std.proofs.Common.{◌≡◌, sym, subst, ap, ℕ, ◌≤◌, List, length, map, replicate, None, Bool, false, arith}
 use Rattle.std.proofs.lemmas.List.{get_or-replicate, length-replicate, length-map}
 use Rattle.rational_time.specs.declared.ratio.Ratio.{Ratio}
 use Rattle.flat_model.specs.declared.clock.Clock.{Clock}
-use Rattle.flat_model.specs.declared.clock.Moment.{Moment}
-use Rattle.flat_model.specs.declared.clock.Moment.TheVariants.{Initial, At}
+use Rattle.flat_model.specs.declared.clock.Moment.TheVariants.{At}
 use Rattle.flat_model.specs.Plan.{rows_within}
 use Rattle.flat_model.specs.NextInstant.{AreLeft}
 use Rattle.flat_model.proofs.InstantsExist.{left_are}
@@ -12,7 +11,7 @@ use Rattle.tick_plan.specs.declared.course.Course.{Course}
 use Rattle.tick_plan.specs.Course.{IsWithin}
 use Rattle.tick_plan.specs.Left.{HasLeft, HasLeft-prop, AreFew, seen}
 use Rattle.tick_plan.specs.NewPlan.{AreFewEnough, IsFirstCourse}
-use Rattle.tick_plan.specs.Plans.{Planned, IsNewPlan, moments_of}
+use Rattle.tick_plan.specs.Plans.{IsNewPlan, moments_of}
 use Rattle.tick_plan.proofs.FewInstants.{left_exists}
 use Rattle.tick_plan.proofs.FirstPlaces.{course_is}
 
@@ -31,7 +30,7 @@ pub new_left : (clocks : List Clock) (times : List Ratio) (stop : Ratio) (sites 
 new_left clocks times stop sites few c first risings none =
     let made = instants_of clocks times stop few in
     subst (λ x. (left : HasLeft x) × AreFew x left.0 risings) (sym (course_is clocks times stop c first))
-        ((made.0, ∣ made.1 ∣₁), subst (λ xs. AreFew (FirstOf clocks times stop) made.0 xs) (sym none) (counts made.0 made.2))
+    ((made.0, ∣ made.1 ∣₁), subst (λ xs. AreFew (FirstOf clocks times stop) made.0 xs) (sym none) (counts made.0 made.2))
   where
     counts : (ts : List Ratio) → length ts ≤ 67108865 → AreFew (FirstOf clocks times stop) ts (replicate sites 0)
     counts ts le j lt =

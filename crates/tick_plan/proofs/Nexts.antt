@@ -1,5 +1,5 @@
 -- What is due is a tick or a row, and the first of both is the next instant.
-use Rattle.std.proofs.Common.{nat_le, Bool, true, false, le-leb, leb-true, ◌≡◌, refl, sym, subst, ap, ◌∙◌, ℕ, ◌*◌, ◌<◌, ◌≤◌, ◌⊎◌, inl, inr, ⊎_elim, List, length, get_or, slice_get, Option, Some, None, Any, arith}
+use Rattle.std.proofs.Common.{Bool, true, false, le-leb, leb-true, ◌≡◌, refl, sym, ap, ◌∙◌, ℕ, ◌*◌, ◌<◌, ◌≤◌, ◌⊎◌, inl, inr, ⊎_elim, List, length, get_or, slice_get, Option, Some, None, Any, arith}
 use Rattle.std.proofs.lemmas.Option.{slice_get_read, get_or_from_slice_get, slice_get_within}
 use Rattle.std.proofs.lemmas.Bool.{false≢true}
 use Rattle.rational_time.specs.declared.ratio.Ratio.{Ratio}
@@ -9,7 +9,6 @@ use Rattle.flat_model.specs.declared.clock.Clock.{Clock}
 use Rattle.flat_model.specs.declared.clock.Clock.TheVariants.{Periodic, Event}
 use Rattle.flat_model.specs.declared.clock.Moment.{Moment}
 use Rattle.flat_model.specs.Moments.{IsDue, TicksAt}
-use Rattle.flat_model.specs.NextInstant.{IsAfter}
 use Rattle.tick_plan.specs.declared.course.Course.{Course}
 use Rattle.tick_plan.specs.Course.{AreRows, IsRowOf, IsTickOf, IsFirstOf, RowAhead, TickAhead, NextIs, earlier_of}
 
@@ -29,9 +28,9 @@ pub due_cases : (c : Course) → AreRows c → (u : Ratio) → IsDue c.clocks c.
 due_cases c is u due = ⊎_elim
     (λ none. inr (record { place = 0; row = is.rising.zero_first.0; is = is.rising.zero_first.1; same = omega (arith, ap (λ z. z * is.rising.zero_first.0.den) none, ap (λ z. z * u.den) is.rising.zero_first.2); within = due.within }))
     (λ others. ⊎_elim
-        (λ row. inr (record { place = row.0; row = row.1; is = placed c.times row.0 row.1 row.2 row.3; same = row.4; within = due.within }))
-        (λ tick. inl (ticks_periodic c u tick.0 tick.1 due.within (placed c.clocks tick.0 tick.1 tick.2 tick.3) tick.4))
-        others)
+    (λ row. inr (record { place = row.0; row = row.1; is = placed c.times row.0 row.1 row.2 row.3; same = row.4; within = due.within }))
+    (λ tick. inl (ticks_periodic c u tick.0 tick.1 due.within (placed c.clocks tick.0 tick.1 tick.2 tick.3) tick.4))
+    others)
     due.cause
 
 pub row_due : (c : Course) (t : Ratio) → IsRowOf c t → IsDue c.clocks c.times c.stop t

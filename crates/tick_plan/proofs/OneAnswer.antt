@@ -1,16 +1,12 @@
 -- A run has one count of rows and ticks, one list of instants and one new plan, and a plan or too many ticks, not both.
-use Rattle.std.proofs.Common.{◌≡◌, ◌∙◌, refl, sym, subst, ap, ap₂, ℕ, ◌+◌, ◌<◌, ◌≤◌, ◌↔◌, ◌⊎◌, ⊎_elim, List, [], ◌∷◌, slice_get, replicate, false, None, arith}
-use Rattle.std.proofs.lemmas.Option.{slice_get_within, get_or_from_slice_get}
+use Rattle.std.proofs.Common.{◌≡◌, ◌∙◌, sym, ap, ℕ, ◌<◌, ◌⊎◌, ⊎_elim, List, [], ◌∷◌, replicate, false, None, arith}
 use Rattle.rational_time.specs.declared.ratio.Ratio.{Ratio}
 use Rattle.flat_model.specs.declared.clock.Clock.{Clock}
 use Rattle.flat_model.specs.declared.clock.Clock.TheVariants.{Periodic, Event}
-use Rattle.flat_model.specs.Moments.{AreInstants, IsDue}
-use Rattle.flat_model.specs.NextInstant.{AreLeft}
 use Rattle.flat_model.specs.Plan.{HasTicks, HaveTicks, IsPlanned, plan_limit, rows_within}
-use Rattle.flat_model.proofs.InstantsLeft.{one_left}
+use Rattle.flat_model.proofs.OneAnswer.{instants_once}
 use Rattle.tick_plan.specs.NewPlan.{AreFewEnough}
 use Rattle.tick_plan.specs.Plans.{Planned, IsNewPlan, moments_of}
-use Rattle.tick_plan.proofs.Growing.{placed}
 
 three : (a b : ℕ) → (a < b) ⊎ ((a ≡ b) ⊎ (b < a))
 three a b = grind arith
@@ -36,17 +32,6 @@ planned_once clocks times stop n m a b = let ticks = ticks_once stop (rows_withi
 -- not both a plan and too many rows and ticks
 pub few_or_many : (clocks : List Clock) (times : List Ratio) (stop : Ratio) (count : ℕ) → AreFewEnough clocks times stop → IsPlanned clocks times stop count → plan_limit < count → ⊥
 few_or_many clocks times stop count few is many = let same = planned_once clocks times stop few.count count few.is is in let most = few.few in omega (arith, same, most, many)
-
-all_left : (clocks : List Clock) (times : List Ratio) (stop : Ratio) (ts : List Ratio) → AreInstants clocks times stop ts → AreLeft clocks times stop None ts
-all_left clocks times stop ts are = record {
-  rising = are.rising;
-  each = λ j t is. (subst (IsDue clocks times stop) (get_or_from_slice_get ts j t t is) (are.due j t (slice_get_within ts j t is)), tt);
-  all = λ t due later. let at = are.all t due in (at.0, at.1, placed ts at.0 at.1 at.2 at.3, at.4);
-}
-
--- one list of instants
-pub instants_once : (clocks : List Clock) (times : List Ratio) (stop : Ratio) (ts us : List Ratio) → AreInstants clocks times stop ts → AreInstants clocks times stop us → ts ≡ us
-instants_once clocks times stop ts us a b = one_left clocks times stop None ts us (all_left clocks times stop ts a) (all_left clocks times stop us b)
 
 -- one new plan
 pub new_plan_once : (clocks : List Clock) (times : List Ratio) (stop : Ratio) (sites : ℕ) (p q : Planned) → IsNewPlan clocks times stop sites p → IsNewPlan clocks times stop sites q → p ≡ q

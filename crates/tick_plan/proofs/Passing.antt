@@ -1,23 +1,20 @@
 -- The keys go on past the instant that is next.
-use Rattle.std.proofs.Common.{◌≡◌, ◌≢◌, refl, sym, subst, ap, ◌∙◌, ℕ, zero, suc, ◌+◌, ◌-◌, ◌*◌, ◌<◌, ◌≤◌, ◌⊎◌, inl, inr, ⊎_elim, List, length, get_or, slice_get, min, Option, Some, None, arith, Bool, true, false, ◌==◌, if◌then◌else◌, eq-eqb, mul-le-mul_right, mul-lt-mul_of_pos_right, le_of_mul-le-mul_right, lt_of_mul-lt-mul_right}
+use Rattle.std.proofs.Common.{◌≡◌, ◌≢◌, refl, sym, subst, ap, ◌∙◌, ℕ, ◌+◌, ◌*◌, ◌<◌, ◌≤◌, ◌⊎◌, ⊎_elim, List, length, get_or, min, Option, Some, arith, Bool, true, false, ◌==◌, if◌then◌else◌, eq-eqb, mul-le-mul_right, le_of_mul-le-mul_right}
 use Rattle.std.proofs.lemmas.Bool.{eqb-true, false≢true}
-use Rattle.std.proofs.lemmas.Option.{slice_get-get_or, slice_get_within, none-some, same_Some}
 use Rattle.std.proofs.Math.Nat.{eq_of_mul-eq-mul_right}
 use Rattle.rational_time.specs.declared.ratio.Ratio.{Ratio}
-use Rattle.rational_time.specs.Fraction.{Same, Below, AtMost}
-use Rattle.rational_time.proofs.Order.{cross_le_trans, cross_lt_le_trans, cross_le_lt_trans}
+use Rattle.rational_time.proofs.Order.{cross_le_trans, cross_le_lt_trans}
 use Rattle.flat_model.specs.declared.clock.Moment.{Moment}
-use Rattle.flat_model.specs.declared.clock.Moment.TheVariants.{Initial, At}
+use Rattle.flat_model.specs.declared.clock.Moment.TheVariants.{At}
 use Rattle.tick_plan.specs.declared.axis.Axis.{Axis}
-use Rattle.flat_model.specs.NextInstant.{IsAfter, AreUnitsAfter, IsNext}
+use Rattle.flat_model.specs.NextInstant.{IsAfter, IsNext}
 use Rattle.tick_tree.specs.Tree.{IsTree, leaf_of}
 use Rattle.tick_plan.specs.declared.course.Course.{Course}
-use Rattle.tick_plan.specs.Course.{AreRows, IsRow}
+use Rattle.tick_plan.specs.Course.{IsRow}
 use Rattle.tick_plan.specs.Axis.{IsKey, IsPlaced, IsAxis, passed_key}
 use Rattle.tick_plan.proofs.Keys.{units_after, key_stays, key_moves}
-use Rattle.flat_model.proofs.InstantsLeft.{later_after}
 use Rattle.flat_model.proofs.Ratios.{ratio_of}
-use Rattle.tick_tree.proofs.Roots.{root_least, attained}
+use Rattle.tick_tree.proofs.Roots.{root_least}
 use Rattle.tick_plan.proofs.Firsts.{tick_some}
 use Rattle.tick_plan.proofs.Nexts.{tick_due}
 
@@ -51,15 +48,15 @@ below_limit a is t next u at = (is.limit_is u).1 (le_of_mul-le-mul_right {k = t.
 pub root_not_before : (a : Axis) → IsAxis a → (t : Ratio) → NextOf a.course t → 1 < length a.nodes.items → t.num * a.den ≤ get_or a.nodes.items 1 0 * t.den
 root_not_before a is t next some = ⊎_elim
     (λ alive.
-        let ticks = tick_some a is some alive in
-        let at = ratio_of (get_or a.nodes.items 1 0) a.den is.grain in
-        let first = next.first at.0 (tick_due a.course at.0 (ticks.ticks at.0 at.1)) (units_after a.course.given at.0 a.den (get_or a.nodes.items 1 0) at.1 ticks.later) in
-        cross_le_trans t.num t.den at.0.num at.0.den (get_or a.nodes.items 1 0) a.den at.0.positive first (omega (arith, at.1)))
+    let ticks = tick_some a is some alive in
+    let at = ratio_of (get_or a.nodes.items 1 0) a.den is.grain in
+    let first = next.first at.0 (tick_due a.course at.0 (ticks.ticks at.0 at.1)) (units_after a.course.given at.0 a.den (get_or a.nodes.items 1 0) at.1 ticks.later) in
+    cross_le_trans t.num t.den at.0.num at.0.den (get_or a.nodes.items 1 0) a.den at.0.positive first (omega (arith, at.1)))
     (λ past.
-        let over : a.course.stop.num * a.den < get_or a.nodes.items 1 0 * a.course.stop.den =
-            ⊎_elim (λ lt. lt) (λ le. let lt = (is.limit_is (get_or a.nodes.items 1 0)).1 le in absurd (omega (arith, lt, past))) (either (a.course.stop.num * a.den) (get_or a.nodes.items 1 0 * a.course.stop.den)) in
-        let less : t.num * a.den < get_or a.nodes.items 1 0 * t.den = cross_le_lt_trans t.num t.den a.course.stop.num a.course.stop.den (get_or a.nodes.items 1 0) a.den t.positive next.due.within over in
-        omega (arith, less))
+    let over : a.course.stop.num * a.den < get_or a.nodes.items 1 0 * a.course.stop.den =
+    ⊎_elim (λ lt. lt) (λ le. let lt = (is.limit_is (get_or a.nodes.items 1 0)).1 le in absurd (omega (arith, lt, past))) (either (a.course.stop.num * a.den) (get_or a.nodes.items 1 0 * a.course.stop.den)) in
+    let less : t.num * a.den < get_or a.nodes.items 1 0 * t.den = cross_le_lt_trans t.num t.den a.course.stop.num a.course.stop.den (get_or a.nodes.items 1 0) a.den t.positive next.due.within over in
+    omega (arith, less))
     (either (get_or a.nodes.items 1 0) a.limit)
 
 -- no leaf is before an instant that is next

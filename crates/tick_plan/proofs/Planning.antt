@@ -1,5 +1,5 @@
 -- How a plan goes on.
-use Rattle.std.proofs.Common.{◌≡◌, refl, sym, subst, ap, ap₂, ◌∙◌, ℕ, suc, ◌+◌, ◌<◌, ◌≤◌, ◌^◌, List, [], ◌∷◌, length, map, get_or, Option, Some, None, Bool, true, false, slice_set, arith}
+use Rattle.std.proofs.Common.{◌≡◌, sym, subst, ap, ◌∙◌, ℕ, suc, ◌+◌, ◌<◌, ◌≤◌, ◌^◌, List, length, map, get_or, Option, Some, None, Bool, true, false, slice_set, arith}
 use Rattle.rational_time.specs.declared.ratio.Ratio.{Ratio}
 use Rattle.flat_model.specs.declared.clock.Clock.{Clock}
 use Rattle.flat_model.specs.declared.clock.Moment.{Moment}
@@ -51,4 +51,3 @@ risen c before after xs bs site = ap (λ x. seen c x.0 xs (slice_set bs site tru
 
 pub long_after : (xs : List ℕ) (bs : List Bool) (ys : List ℕ) (cs : List Bool) → length xs ≡ length bs → ys ≡ counted xs bs → cs ≡ map (λ b. false) bs → length ys ≡ length cs
 long_after xs bs ys cs long y c = ap length y ∙ counted_length xs bs long ∙ long ∙ sym (cleared_length bs) ∙ sym (ap length c)
-

@@ -1,7 +1,6 @@
 -- What a plan asks of clocks holds of those that can be run.
-use Rattle.std.proofs.Common.{◌≡◌, subst, ℕ, ◌<◌, ◌^◌, List, slice_get, Some, arith}
+use Rattle.std.proofs.Common.{◌≡◌, subst, ℕ, slice_get, Some}
 use Rattle.std.proofs.lemmas.Option.{slice_get_within, get_or_from_slice_get}
-use Rattle.rational_time.specs.declared.ratio.Ratio.{Ratio}
 use Rattle.flat_model.specs.declared.clock.Clock.{Clock}
 use Rattle.flat_model.specs.declared.clock.Clock.TheVariants.{Periodic, Event}
 use Rattle.flat_model.specs.declared.clock.Clocking.{Clocking}

@@ -1,5 +1,5 @@
 -- The rows of a course: the first of them to come, and where they go on past an instant.
-use Rattle.std.proofs.Common.{nat_le, true, false, le-leb, ◌≡◌, refl, sym, subst, ap, ◌∙◌, ℕ, suc, ◌+◌, ◌*◌, ◌<◌, ◌≤◌, ◌⊎◌, inl, inr, ⊎_elim, List, length, slice_get, Option, Some, None, arith, mul-lt-mul_of_pos_right, le_of_mul-le-mul_right, lt_of_mul-lt-mul_right}
+use Rattle.std.proofs.Common.{false, le-leb, ◌≡◌, refl, sym, subst, ap, ◌∙◌, ℕ, ◌+◌, ◌*◌, ◌<◌, ◌≤◌, ◌⊎◌, ⊎_elim, slice_get, Option, Some, None, arith, mul-lt-mul_of_pos_right, le_of_mul-le-mul_right, lt_of_mul-lt-mul_right}
 use Rattle.std.proofs.lemmas.Option.{slice_get-get_or, slice_get_within, none-some, same_Some}
 use Rattle.std.proofs.lemmas.Bool.{false≢true}
 use Rattle.rational_time.specs.declared.ratio.Ratio.{Ratio}
@@ -26,10 +26,10 @@ row_first : (c : Course) → AreRows c → (r : Ratio) → slice_get c.times c.r
 row_first c is r at t row later = ⊎_elim
     (λ passed. absurd (is.row_is.passed row.place row.row row.is passed (after_same c.given t row.row row.same later)))
     (λ others. ⊎_elim
-        (λ here. let same : row.row ≡ r = same_Some _ _ (sym row.is ∙ ap (slice_get c.times) here ∙ at) in subst (λ x. AtMost x t) same (omega (arith, row.same)))
-        (λ before. let below = is.rising.ordered c.row row.place r row.row before at row.is in
-            le_of_mul-le-mul_right {k = row.row.den} (omega (arith, mul-lt-mul_of_pos_right below t.positive, ap (λ z. z * r.den) row.same)) row.row.positive)
-        others)
+    (λ here. let same : row.row ≡ r = same_Some _ _ (sym row.is ∙ ap (slice_get c.times) here ∙ at) in subst (λ x. AtMost x t) same (omega (arith, row.same)))
+    (λ before. let below = is.rising.ordered c.row row.place r row.row before at row.is in
+    le_of_mul-le-mul_right {k = row.row.den} (omega (arith, mul-lt-mul_of_pos_right below t.positive, ap (λ z. z * r.den) row.same)) row.row.positive)
+    others)
     (three row.place c.row)
 
 pub row_some : (c : Course) → AreRows c → (r : Ratio) → slice_get c.times c.row ≡ Some r → AtMost r c.stop → RowAhead c (Some r)
@@ -93,4 +93,3 @@ row_ended c is t next none = record {
   passed = λ j u has lt later. is.row_is.passed j u has lt (later_after c.given t u next.later later);
   ahead = λ j u has le. absurd (none-some _ (sym none ∙ slice_get-get_or c.times c.row u (omega (arith, le, slice_get_within c.times j u has))));
 }
-

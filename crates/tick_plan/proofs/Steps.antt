@@ -1,19 +1,18 @@
 -- A step from a place to the next moment.
-use Rattle.std.proofs.Common.{◌≡◌, refl, sym, subst, ap, ◌∙◌, ℕ, ◌+◌, ◌<◌, ◌≤◌, List, [], ◌∷◌, length, map, Option, Some, None, arith}
+use Rattle.std.proofs.Common.{◌≡◌, refl, sym, subst, ap, ◌∙◌, ℕ, List, [], ◌∷◌, map, Option, Some, None}
 use Rattle.std.proofs.Props.{props}
-use Rattle.std.proofs.Math.Logic.{∥∥₁_elim}
 use Rattle.rational_time.specs.declared.ratio.Ratio.{Ratio}
 use Rattle.flat_model.specs.declared.clock.Clock.{Clock}
 use Rattle.flat_model.specs.declared.clock.Moment.{Moment}
 use Rattle.flat_model.specs.declared.clock.Moment.TheVariants.{Initial, At}
-use Rattle.flat_model.specs.NextInstant.{IsNext, NoneIsNext, AreLeft}
+use Rattle.flat_model.specs.NextInstant.{AreLeft}
 use Rattle.flat_model.proofs.InstantsLeft.{next_first, none_left, rest_left}
 use Rattle.tick_plan.specs.declared.axis.Axis.{Axis}
 use Rattle.tick_plan.specs.declared.course.Course.{Course}
 use Rattle.tick_plan.specs.Axis.{IsKey, IsPlaced, IsSound}
 use Rattle.tick_plan.specs.Course.{IsSameCourse, IsWithin, NextIs}
-use Rattle.tick_plan.specs.Left.{HasLeft, ahead_of, StepsOn}
-use Rattle.tick_plan.proofs.Untold.{lift, lift₂, known₂}
+use Rattle.tick_plan.specs.Left.{ahead_of, StepsOn}
+use Rattle.tick_plan.proofs.Untold.{lift, known₂}
 
 key_initial : (den limit : ℕ) (period start : Ratio) (key step : ℕ) → IsKey den limit period start None key step → IsKey den limit period start (Some Initial) key step
 key_initial den limit period start key step is = record {
@@ -82,13 +81,13 @@ others_left c t ts next left = lift (λ l. rest_left c.clocks c.times c.stop c.g
 pub steps_at : (old new : Course) (g : Moment) (t : Ratio) → old.given ≡ Some g → ∥ NextIs old (Some t) ∥₁ → new.given ≡ Some (At t) → IsSameCourse old new
     → (ts : List Ratio) → ∥ AreLeft old.clocks old.times old.stop old.given ts ∥₁ → StepsOn old new ts (Some (At t))
 steps_at old new g t is next given same ts left = (
-    tail_of ts,
-    ap (λ h. ahead_of h ts) is ∙ ap (λ xs. map (λ u. At u) xs) (first_left old t ts next left) ∙ ap (λ h. At t ∷ ahead_of h (tail_of ts)) (sym given),
-    given,
-    same,
-    subst (λ x. ∥ IsWithin x new.stop ∥₁) (sym given) (subst (λ x. ∥ IsWithin (Some (At t)) x ∥₁) (sym same.stop) (lift (λ n. n.due.within) next)),
-    subst (λ x. ∥ AreLeft new.clocks new.times new.stop x (tail_of ts) ∥₁) (sym given)
-        (subst (λ x. ∥ AreLeft x new.times new.stop (Some (At t)) (tail_of ts) ∥₁) (sym same.clocks)
-        (subst (λ x. ∥ AreLeft old.clocks x new.stop (Some (At t)) (tail_of ts) ∥₁) (sym same.times)
-        (subst (λ x. ∥ AreLeft old.clocks old.times x (Some (At t)) (tail_of ts) ∥₁) (sym same.stop) (others_left old t ts next left)))),
-  )
+  tail_of ts,
+  ap (λ h. ahead_of h ts) is ∙ ap (λ xs. map (λ u. At u) xs) (first_left old t ts next left) ∙ ap (λ h. At t ∷ ahead_of h (tail_of ts)) (sym given),
+  given,
+  same,
+  subst (λ x. ∥ IsWithin x new.stop ∥₁) (sym given) (subst (λ x. ∥ IsWithin (Some (At t)) x ∥₁) (sym same.stop) (lift (λ n. n.due.within) next)),
+  subst (λ x. ∥ AreLeft new.clocks new.times new.stop x (tail_of ts) ∥₁) (sym given)
+      (subst (λ x. ∥ AreLeft x new.times new.stop (Some (At t)) (tail_of ts) ∥₁) (sym same.clocks)
+      (subst (λ x. ∥ AreLeft old.clocks x new.stop (Some (At t)) (tail_of ts) ∥₁) (sym same.times)
+      (subst (λ x. ∥ AreLeft old.clocks old.times x (Some (At t)) (tail_of ts) ∥₁) (sym same.stop) (others_left old t ts next left)))),
+)

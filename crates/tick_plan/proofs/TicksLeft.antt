@@ -1,10 +1,8 @@
 -- The next tick of a class is the first of the moments left at which it ticks.
-use Rattle.std.proofs.Common.{◌≡◌, refl, sym, subst, ap, ◌∙◌, ℕ, zero, suc, ◌+◌, ◌*◌, ◌<◌, ◌≤◌, List, [], ◌∷◌, length, map, get_or, slice_get, Option, Some, None, Bool, Contains, arith}
-use Rattle.std.specs.Int.{◌∣◌}
+use Rattle.std.proofs.Common.{◌≡◌, sym, subst, ap, ◌∙◌, ℕ, zero, suc, ◌*◌, ◌<◌, ◌≤◌, List, [], ◌∷◌, map, slice_get, Option, Some, None, Bool, Contains, arith}
 use Rattle.std.proofs.lemmas.Nat.Gcd.{le_of_dvd}
 use Rattle.std.proofs.lemmas.Option.{none-some, same_Some}
 use Rattle.rational_time.specs.declared.ratio.Ratio.{Ratio}
-use Rattle.rational_time.specs.Fraction.{Same, AtMost, IsTick}
 use Rattle.flat_model.specs.declared.clock.Clock.TheVariants.{Periodic}
 use Rattle.flat_model.specs.declared.clock.Moment.{Moment}
 use Rattle.flat_model.specs.declared.clock.Moment.TheVariants.{Initial, At}
@@ -14,7 +12,7 @@ use Rattle.flat_model.proofs.InstantsLeft.{same_ratio}
 use Rattle.flat_model.proofs.Ratios.{ratio_of}
 use Rattle.tick_plan.specs.declared.course.Course.{Course}
 use Rattle.tick_plan.specs.Axis.{IsKey, IsLimit}
-use Rattle.tick_plan.specs.Course.{IsFirstOf, IsTickIn}
+use Rattle.tick_plan.specs.Course.{IsTickIn}
 use Rattle.tick_plan.specs.Left.{ahead_of, seen}
 use Rattle.tick_plan.specs.Making.{IsLeastMultiple}
 use Rattle.tick_plan.specs.NextTick.{IsTickLeft, NextTickIs}
@@ -75,10 +73,12 @@ module _ (c : Course) (ts : List Ratio) (risings : List ℕ) (noted : List Bool)
       let first = key_first den limit key step period start c.stop c.given grain limit_is is below t.0 t.1 in
       let tick = first.0 in
       let at = left.all t.0 (tick_due c t.0 (record { clock = class; period = period; start = start; is = clock; k = tick.0; at = tick.1; within = tick.2 })) first.1 in
-      let here : slice_get ts at.0 ≡ Some t.0 = at.2 ∙ ap (λ u. Some u) (sym (same_ratio t.0 at.1 at.3)) in
-      (t.0, record { period = period; start = start; is = clock; k = tick.0; at = tick.1; left = ahead_has c.given ts at.0 t.0 here },
-          (λ v other. let own = ticks_in v other in first.2 v own.0 own.1),
-          (λ d other. let one = one_multiple (denominators c.clocks) d den other least in subst (λ x. t.0.num * x ≡ key * t.0.den) (sym one) t.1))
+      let here : slice_get ts at.0 ≡ Some t.0 = at.2 ∙ ap (λ u. Some u) (sym (same_ratio t.0 at.1 at.3)) in (
+        t.0,
+        record { period = period; start = start; is = clock; k = tick.0; at = tick.1; left = ahead_has c.given ts at.0 t.0 here },
+        (λ v other. let own = ticks_in v other in first.2 v own.0 own.1),
+        (λ d other. let one = one_multiple (denominators c.clocks) d den other least in subst (λ x. t.0.num * x ≡ key * t.0.den) (sym one) t.1),
+      )
 
   pub none_left : limit ≤ key → NextTickIs (seen c ts risings noted) class None
   none_left past v tick = let own = ticks_in v tick in key_none den limit key step period start c.stop c.given grain limit_is is past v own.0 own.1

@@ -1,5 +1,5 @@
 -- A course whose clocks can be counted, each in its own denominators.
-use Rattle.std.specs.Prelude.{ℕ, ◌*◌, ◌<◌, ◌^◌}
+use Rattle.std.specs.Prelude.{◌*◌, ◌<◌, ◌^◌}
 use Rattle.tick_plan.specs.declared.course.Course.{Course}
 use Rattle.tick_plan.specs.Course.{AreRows, IsWithin}
 use Rattle.tick_plan.specs.Grid.{HaveFactors}

@@ -1,5 +1,5 @@
 -- Clocks in units of one denominator.
-use Rattle.std.specs.Prelude.{◌≡◌, ℕ, ◌+◌, ◌-◌, ◌*◌, ◌/◌, ◌%◌, ◌<◌, ◌==◌, ◌&&◌, nat_le, Bool, List, length, get_or, slice_get, min, Option, Some, None}
+use Rattle.std.specs.Prelude.{◌≡◌, ℕ, ◌-◌, ◌*◌, ◌/◌, ◌%◌, ◌<◌, ◌==◌, ◌&&◌, nat_le, Bool, List, length, get_or, slice_get, min, Option, Some}
 use Rattle.rational_time.specs.declared.ratio.Ratio.{Ratio}
 use Rattle.flat_model.specs.declared.clock.Moment.{Moment}
 use Rattle.flat_model.specs.declared.clock.Moment.TheVariants.{At}

@@ -3,6 +3,7 @@ pub mod Course
 pub mod Fraction
 pub mod Grid
 pub mod Leaves
+pub mod Laws
 pub mod Left
 pub mod Making
 pub mod NewPlan

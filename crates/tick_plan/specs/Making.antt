@@ -5,7 +5,7 @@ use Rattle.rational_time.specs.declared.ratio.Ratio.{Ratio}
 use Rattle.rational_time.specs.Fraction.{ArePartsBelow}
 use Rattle.rational_time.specs.Multiple.{AllDivide}
 use Rattle.flat_model.specs.declared.clock.Clock.{Clock}
-use Rattle.flat_model.specs.declared.clock.Clock.TheVariants.{Periodic, Event}
+use Rattle.flat_model.specs.declared.clock.Clock.TheVariants.{Periodic}
 
 -- each period is above 0, and each part of a Periodic clock is below 2^40
 pub record IsCountable (period start : Ratio) : Type 0 where

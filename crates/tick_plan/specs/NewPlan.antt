@@ -2,8 +2,6 @@
 use Rattle.std.specs.Prelude.{◌≡◌, ℕ, ◌<◌, ◌≤◌, List, Result, Ok, Err, None}
 use Rattle.rational_time.specs.declared.ratio.Ratio.{Ratio}
 use Rattle.flat_model.specs.declared.clock.Clock.{Clock}
-use Rattle.flat_model.specs.declared.clock.Clocking.{Clocking}
-use Rattle.flat_model.specs.declared.table.Table.{Table}
 use Rattle.flat_model.specs.Plan.{IsPlanned, plan_limit}
 use Rattle.tick_plan.specs.declared.plan_end.PlanEnd.{PlanEnd}
 use Rattle.tick_plan.specs.declared.plan_end.PlanEnd.TheVariants.{TooMany, NoMemory}

@@ -41,10 +41,7 @@ fn tick_ahead(course: &Course) -> Option<Ratio>
     let mut first = None;
     for clock in course.clocks.as_slice() {
         if let Clock::Periodic { period, start } = *clock {
-            first = earlier(
-                first,
-                first_tick(period, start, course.stop, course.given),
-            );
+            first = earlier(first, first_tick(period, start, course.stop, course.given));
         }
     }
     first

@@ -15,6 +15,7 @@ mod fraction_plan;
 mod fraction_stepping;
 mod grid_new;
 mod grid_plan;
+mod law;
 mod leaves;
 mod making;
 mod next_units;
@@ -27,6 +28,7 @@ mod traits;
 
 pub use fraction_plan::FractionPlan;
 pub use grid_plan::GridPlan;
+pub use law::new_plan_law;
 pub use plan_end::PlanEnd;
 pub use traits::{TickSource, Ticking};
 

@@ -22,5 +22,9 @@ pub(crate) fn units_of(value: Ratio, den: u64, limit: u64) -> u64
     ensures { CountsTo den limit value result }
 {
     let units = u128::from(value.num()) * u128::from(den / value.den());
-    if units < u128::from(limit) { units as u64 } else { limit }
+    if units < u128::from(limit) {
+        units as u64
+    } else {
+        limit
+    }
 }

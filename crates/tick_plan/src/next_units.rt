@@ -31,13 +31,7 @@ fn units_after(at: Ratio, den: u64, first: u64, step: u64, limit: u64) -> u64
 }
 
 /// The same after the moment given last. Before the first instant it is the first tick.
-pub(crate) fn next_units(
-    given: Option<Moment>,
-    den: u64,
-    first: u64,
-    step: u64,
-    limit: u64,
-) -> u64
+pub(crate) fn next_units(given: Option<Moment>, den: u64, first: u64, step: u64, limit: u64) -> u64
     requires some { 0 < step }
     requires first { first ≤ limit }
     requires grain { 0 < den }

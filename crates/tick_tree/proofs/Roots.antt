@@ -1,5 +1,5 @@
 -- The root of a tree is the least of its leaves, and what is left to go until all leaves are at the cap.
-use Rattle.std.proofs.Common.{◌≡◌, ◌≢◌, refl, sym, subst, ap, ◌∙◌, ℕ, zero, suc, ◌+◌, ◌-◌, ◌*◌, ◌/◌, ◌<◌, ◌≤◌, ◌⊎◌, inl, inr, ⊎_elim, List, length, get_or, min, arith, Bool, true, false, ◌==◌, if◌then◌else◌, eq-eqb}
+use Rattle.std.proofs.Common.{◌≡◌, ◌≢◌, refl, sym, subst, ap, ◌∙◌, ℕ, zero, suc, ◌+◌, ◌-◌, ◌/◌, ◌<◌, ◌≤◌, ◌⊎◌, ⊎_elim, List, length, get_or, min, arith, Bool, true, false, ◌==◌, if◌then◌else◌, eq-eqb}
 use Rattle.std.proofs.lemmas.Bool.{eqb-true, false≢true}
 use Rattle.tick_tree.specs.Tree.{IsTree, leaf_of}
 
@@ -59,12 +59,12 @@ above_all_by : (n : ℕ) (nodes : List ℕ) → IsTree nodes → (least : ℕ) �
 above_all_by zero nodes tree least leaves i far some within = absurd (omega arith)
 above_all_by (suc n) nodes tree least leaves i far some within = ⊎_elim
     (λ inner.
-        let left = above_all_by n nodes tree least leaves (i + i) (omega arith) (omega arith) (omega (arith, tree.even, inner)) in
-        let right = above_all_by n nodes tree least leaves (i + i + 1) (omega arith) (omega arith) (omega (arith, tree.even, inner)) in
-        omega (arith, left, right, tree.least i some inner))
+    let left = above_all_by n nodes tree least leaves (i + i) (omega arith) (omega arith) (omega (arith, tree.even, inner)) in
+    let right = above_all_by n nodes tree least leaves (i + i + 1) (omega arith) (omega arith) (omega (arith, tree.even, inner)) in
+    omega (arith, left, right, tree.least i some inner))
     (λ outer.
-        let at : length nodes / 2 + (i - length nodes / 2) ≡ i = omega (arith, outer) in
-        subst (λ k. least ≤ get_or nodes k 0) at (leaves (i - length nodes / 2) (omega (arith, tree.even, outer))))
+    let at : length nodes / 2 + (i - length nodes / 2) ≡ i = omega (arith, outer) in
+    subst (λ k. least ≤ get_or nodes k 0) at (leaves (i - length nodes / 2) (omega (arith, tree.even, outer))))
     (either i (length nodes / 2))
 
 pub above_all : (nodes : List ℕ) → IsTree nodes → (least : ℕ) → 1 < length nodes → ((j : ℕ) → j + j < length nodes → least ≤ leaf_of nodes j) → least ≤ get_or nodes 1 0
@@ -78,12 +78,12 @@ attained_by : (n : ℕ) (nodes : List ℕ) → IsTree nodes → (i : ℕ) → le
 attained_by zero nodes tree i far some within = absurd (omega arith)
 attained_by (suc n) nodes tree i far some within = ⊎_elim
     (λ inner.
-        let left = attained_by n nodes tree (i + i) (omega arith) (omega arith) (omega (arith, tree.even, inner)) in
-        let right = attained_by n nodes tree (i + i + 1) (omega arith) (omega arith) (omega (arith, tree.even, inner)) in
-        ⊎_elim (λ same. (left.0, left.1, left.2 ∙ sym same)) (λ same. (right.0, right.1, right.2 ∙ sym same)) (least_is _ _ _ (tree.least i some inner)))
+    let left = attained_by n nodes tree (i + i) (omega arith) (omega arith) (omega (arith, tree.even, inner)) in
+    let right = attained_by n nodes tree (i + i + 1) (omega arith) (omega arith) (omega (arith, tree.even, inner)) in
+    ⊎_elim (λ same. (left.0, left.1, left.2 ∙ sym same)) (λ same. (right.0, right.1, right.2 ∙ sym same)) (least_is _ _ _ (tree.least i some inner)))
     (λ outer.
-        let at : length nodes / 2 + (i - length nodes / 2) ≡ i = omega (arith, outer) in
-        (i - length nodes / 2, omega (arith, tree.even, outer), ap (λ k. get_or nodes k 0) at))
+    let at : length nodes / 2 + (i - length nodes / 2) ≡ i = omega (arith, outer) in
+    (i - length nodes / 2, omega (arith, tree.even, outer), ap (λ k. get_or nodes k 0) at))
     (either i (length nodes / 2))
   where
     least_is : (a b c : ℕ) → a ≡ min b c → (a ≡ b) ⊎ (a ≡ c)

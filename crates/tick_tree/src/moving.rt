@@ -8,7 +8,11 @@ fn moved_on(key: u64, step: u64, limit: u64) -> u64
     requires { key < limit }
     ensures { result ≡ min (key + step) limit }
 {
-    if step < limit - key { key + step } else { limit }
+    if step < limit - key {
+        key + step
+    } else {
+        limit
+    }
 }
 
 /// Moves each key that is the least on by its step, and no further than the limit.

@@ -1,4 +1,4 @@
-use Rattle.std.proofs.Common.{◌≡◌, ◌∙◌, sym, ap, subst, arith, length, get_or, ◌<◌, ◌≤◌, ◌*◌, Some}
+use Rattle.std.proofs.Common.{◌∙◌, sym, ap, subst, length, get_or, Some}
 use Rattle.std.proofs.lemmas.List.{with_items_is}
 use Rattle.std.proofs.Props.{props}
 use Rattle.flat_model.specs.declared.clock.Moment.TheVariants.{At}
@@ -28,9 +28,9 @@ returns-clause-is c =
     let long = c.pass_ticks.ensures.long ∙ ap length c.as_mut_slice.ensures.value in
     let items = with_items_is a.nodes c.pass_ticks.new.nodes (long ∙ sym a.nodes.ok.0) in
     subst (λ xs. ∥ IsPlaced (record { clocks = a.course.clocks; times = a.course.times; stop = a.course.stop; row = c.row_after-axis.result; given = Some (At c.args.t) }) a.den a.limit xs a.steps.items ∥₁) (sym items)
-        (lift₃ (λ is next row. placed_behind a is c.args.t next c.row_after-axis.result row c.pass_ticks.new.nodes c.pass_ticks.ensures.tree long
-            (passed_of a c.args.t c.pass_ticks.new.nodes c.as_mut_slice.result.now c.as_slice.result.now c.as_mut_slice.ensures.value c.as_slice.ensures.value c.pass_ticks.ensures.leaves))
-            c.requires.is c.requires.next c.row_after-axis.ensures)
+    (lift₃ (λ is next row. placed_behind a is c.args.t next c.row_after-axis.result row c.pass_ticks.new.nodes c.pass_ticks.ensures.tree long
+    (passed_of a c.args.t c.pass_ticks.new.nodes c.as_mut_slice.result.now c.as_slice.result.now c.as_mut_slice.ensures.value c.as_slice.ensures.value c.pass_ticks.ensures.leaves))
+    c.requires.is c.requires.next c.row_after-axis.ensures)
 
 pub row_after-axis-requires-clause-rows : goal.row_after-axis-requires-clause-rows
 row_after-axis-requires-clause-rows c = lift (λ is. is.rows) c.requires.is

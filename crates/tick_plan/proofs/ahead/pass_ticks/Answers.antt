@@ -1,4 +1,4 @@
-use Rattle.std.proofs.Common.{◌≡◌, ◌∙◌, sym, ap, arith, eq-eqb}
+use Rattle.std.proofs.Common.{◌∙◌, sym, arith, eq-eqb}
 use Rattle.std.proofs.lemmas.Bool.{eqb-true, false≢true}
 use Rattle.tick_tree.proofs.Roots.{root_least}
 use Rattle.tick_plan.proofs.Passing.{moved_passed, kept_passed}

@@ -1,4 +1,3 @@
-use Rattle.std.proofs.Common.{◌≡◌, ◌<◌, ◌≤◌, arith, get_or, length}
 use Rattle.tick_plan.proofs.Untold.{lift}
 use Rattle.tick_plan.proofs.Firsts.{tick_some_of, tick_none_of, tick_empty_of}
 use Rattle.tick_plan.proofs.ahead.tick_ahead.Goals as goal

@@ -1,4 +1,4 @@
-use Rattle.std.proofs.Common.{◌≡◌, ◌∙◌, sym, ap, refl, arith, ◌<◌, ℕ, Some, length, slice_get}
+use Rattle.std.proofs.Common.{◌∙◌, ap, refl, arith, Some, length}
 use Rattle.std.proofs.Math.Nat.{one-dvd}
 use Rattle.std.proofs.lemmas.Nat.Gcd.{le_of_dvd}
 use Rattle.std.proofs.lemmas.Option.{slice_get_within, slice_get_read}

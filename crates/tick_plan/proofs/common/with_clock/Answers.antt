@@ -1,5 +1,4 @@
-use Rattle.std.proofs.Common.{◌≡◌, ◌∙◌, sym, subst, arith, ◌<◌, ◌≤◌, ◌^◌, ◌∷◌, []}
-use Rattle.rational_time.specs.Multiple.{IsLcm, HasMultipleBelow}
+use Rattle.std.proofs.Common.{arith}
 use Rattle.rational_time.proofs.Multiples.{IsLcm-positive}
 use Rattle.std.proofs.Props.{props}
 use Rattle.std.proofs.lemmas.Nat.Gcd.{le_of_dvd}

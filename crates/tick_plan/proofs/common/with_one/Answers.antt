@@ -1,4 +1,4 @@
-use Rattle.std.proofs.Common.{◌≡◌, ◌∙◌, sym, ap, subst}
+use Rattle.std.proofs.Common.{◌≡◌, ◌∙◌, sym, subst}
 use Rattle.std.specs.Int.{◌∣◌}
 use Rattle.rational_time.specs.declared.ratio.Ratio.{Ratio}
 use Rattle.flat_model.specs.declared.clock.Clock.TheVariants.{Periodic}

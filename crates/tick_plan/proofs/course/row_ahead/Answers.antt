@@ -1,4 +1,4 @@
-use Rattle.std.proofs.Common.{◌≡◌, ◌∙◌, sym, ap, leb-true}
+use Rattle.std.proofs.Common.{◌∙◌, sym, ap, leb-true}
 use Rattle.std.specs.Option.{option_copied}
 use Rattle.tick_plan.proofs.Untold.{lift}
 use Rattle.tick_plan.proofs.Rows.{row_some, row_none, row_past, above_stop}

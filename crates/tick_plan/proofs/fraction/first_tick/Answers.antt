@@ -1,5 +1,3 @@
-use Rattle.std.proofs.Common.{◌≡◌, ◌∙◌, sym, refl, subst, arith, ◌<◌, ◌≤◌, min}
-use Rattle.tick_plan.specs.Grid.{AreUnits}
 use Rattle.tick_plan.proofs.FirstPlaces.{units_are}
 use Rattle.tick_plan.proofs.Fractions.{before_limit, key_first, key_none, limit_some, step_above}
 use Rattle.tick_plan.proofs.fraction.first_tick.Goals as goal

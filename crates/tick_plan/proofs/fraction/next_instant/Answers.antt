@@ -1,4 +1,4 @@
-use Rattle.std.proofs.Common.{◌≡◌, sym, subst}
+use Rattle.std.proofs.Common.{sym, subst}
 use Rattle.tick_plan.specs.Course.{NextIs}
 use Rattle.tick_plan.proofs.Untold.{lift, lift₃}
 use Rattle.tick_plan.proofs.Nexts.{next_of}

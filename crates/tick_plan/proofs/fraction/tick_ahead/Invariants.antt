@@ -1,4 +1,3 @@
-use Rattle.std.proofs.Common.{◌≡◌, ℕ}
 use Rattle.tick_plan.specs.Course.{IsFirstOf}
 use Rattle.tick_plan.proofs.Fractions.{IsTickBelow}
 use Rattle.tick_plan.proofs.fraction.tick_ahead.Given as goal

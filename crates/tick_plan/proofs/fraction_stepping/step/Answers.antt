@@ -1,4 +1,4 @@
-use Rattle.std.proofs.Common.{◌≡◌, ◌∙◌, sym, refl, subst, Some, None}
+use Rattle.std.proofs.Common.{refl}
 use Rattle.tick_plan.proofs.Fractions.{whole_initial}
 use Rattle.tick_plan.proofs.Steps.{first_step, nothing_left, steps_at}
 use Rattle.tick_plan.proofs.Untold.{lift}

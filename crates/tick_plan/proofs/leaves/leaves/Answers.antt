@@ -1,4 +1,4 @@
-use Rattle.std.proofs.Common.{◌≡◌, ◌∙◌, sym, ap, refl, subst, arith, length, Some, slice_get}
+use Rattle.std.proofs.Common.{◌∙◌, ap, refl, arith, Some}
 use Rattle.std.proofs.lemmas.List.Filters.{dedup_is}
 use Rattle.std.proofs.lemmas.List.Kept.{Contains-from_dedup}
 use Rattle.std.proofs.lemmas.List.Sorted.{Contains-permutation, IsPermutation-sym}
@@ -6,8 +6,6 @@ use Rattle.std.proofs.lemmas.Option.{slice_get-get_or, slice_get_within}
 use Rattle.tick_plan.proofs.Growing.{grown}
 use Rattle.tick_plan.proofs.LeafLaws.{kept_once, leaf_more, all_more, all_still}
 use Rattle.tick_plan.specs.Leaves.{leaf_at}
-use Rattle.flat_model.specs.declared.clock.Clock.TheVariants.{Periodic, Event}
-use Rattle.rational_time.specs.declared.ratio.Ratio.{Ratio}
 use Rattle.tick_plan.proofs.leaves.leaves.Goals as goal
 use Rattle.tick_plan.proofs.leaves.leaves.Goals.{in-Periodic+in_ok-push, in_default}
 
@@ -20,7 +18,7 @@ pub returns-clause-all : goal.returns-clause-all
 returns-clause-all c i p s is =
     let one = dedup_is _ _ _ c.dedup.ensures.filtered in
     rw one (kept_once _ (λ x y. refl) _ _ (Contains-permutation _ _ _ c.sort_unstable.ensures.permutation
-        (c.loop-class.invariant.all i p s (omega (arith, slice_get_within c.args.clocks.now i _ is, c.loop-class-test.false)) is)))
+    (c.loop-class.invariant.all i p s (omega (arith, slice_get_within c.args.clocks.now i _ is, c.loop-class-test.false)) is)))
 
 pub loop-class-preserved : goal.loop-class-preserved
 loop-class-preserved c = let inv = c.loop-class.invariant in let lt = c.loop-class-test.true in elim c.match-clocks-class.branch [

@@ -1,4 +1,4 @@
-use Rattle.std.proofs.Common.{◌≡◌, ℕ, ◌<◌, ◌≤◌, length, Contains}
+use Rattle.std.proofs.Common.{ℕ, ◌<◌, ◌≤◌, length, Contains}
 use Rattle.rational_time.specs.declared.ratio.Ratio.{Ratio}
 use Rattle.tick_plan.specs.Course.{IsPeriodic}
 use Rattle.tick_plan.specs.Leaves.{IsLeafOf, leaf_at}

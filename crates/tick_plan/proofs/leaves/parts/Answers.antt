@@ -1,4 +1,4 @@
-use Rattle.std.proofs.Common.{◌≡◌, ◌∙◌, sym, ap, refl, subst, arith, ◌+◌, length, get_or, Some, slice_get}
+use Rattle.std.proofs.Common.{◌∙◌, ap, arith, ◌+◌, length, get_or}
 use Rattle.tick_plan.specs.declared.leaves.Leaf.{Leaf}
 use Rattle.std.proofs.lemmas.Option.{slice_get-get_or, slice_get_within}
 use Rattle.tick_plan.proofs.Growing.{grown}

@@ -1,4 +1,4 @@
-use Rattle.std.proofs.Common.{◌≡◌, ◌∙◌, sym, ap, refl, subst, arith, ◌+◌, length, Some, slice_get}
+use Rattle.std.proofs.Common.{◌∙◌, ap, refl, arith, ◌+◌, length, Some}
 use Rattle.std.proofs.lemmas.Option.{slice_get_read, slice_get_within}
 use Rattle.tick_plan.proofs.Growing.{grown}
 use Rattle.tick_plan.proofs.LeafLaws.{units_more}

@@ -1,4 +1,4 @@
-use Rattle.std.proofs.Common.{◌≡◌, ◌∙◌, sym, ap, ap₂, refl, subst, arith, ◌+◌, ◌-◌, ◌*◌, ◌/◌, ◌<◌, ◌≤◌, min, ℕ, Some}
+use Rattle.std.proofs.Common.{◌∙◌, ap₂, refl, arith, ◌*◌, ◌/◌}
 use Rattle.tick_plan.proofs.NextKeys.{computed_before, computed_below, computed_past}
 use Rattle.tick_plan.proofs.next_units.units_after.Goals as goal
 
@@ -16,4 +16,3 @@ pub returns-else-next-from : goal.returns-else-next-from
 returns-else-next-from c period start is =
     let p = ap₂ (λ a b. a / b) (ap₂ (λ x y. x * y) (c.from.ensures ∙ c.num.ensures) c.from-2.ensures) (c.from-3.ensures ∙ c.den.ensures) in
     computed_past c.args.den c.args.limit period start c.args.first c.args.step is c.args.at c.requires.past _ _ _ _ p c.from-start.ensures c.from-4.ensures c.from-5.ensures c.if-passed-start.false (omega (arith, c.if-next-from.false, c.from-6.ensures))
-

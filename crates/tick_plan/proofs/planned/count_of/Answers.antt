@@ -1,4 +1,4 @@
-use Rattle.std.proofs.Common.{◌≡◌, ◌∙◌, sym, ap, refl, arith, ◌≤◌, ◌+◌, ◌^◌, length, Some}
+use Rattle.std.proofs.Common.{refl, arith, ◌+◌, length}
 use Rattle.std.proofs.lemmas.Option.{slice_get_read}
 use Rattle.tick_plan.proofs.Counts.{ticks_more}
 use Rattle.tick_plan.proofs.planned.count_of.Goals as goal

@@ -1,4 +1,4 @@
-use Rattle.std.proofs.Common.{◌≡◌, ℕ, ◌+◌, ◌≤◌, take, count_by}
+use Rattle.std.proofs.Common.{◌≡◌, ◌≤◌, take, count_by}
 use Rattle.rational_time.specs.Fraction.{at_most}
 use Rattle.tick_plan.proofs.planned.rows_until.Given as goal
 

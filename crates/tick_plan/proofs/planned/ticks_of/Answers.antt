@@ -1,4 +1,4 @@
-use Rattle.std.proofs.Common.{◌≡◌, ◌∙◌, sym, ap, arith, ◌≤◌, ◌^◌}
+use Rattle.std.proofs.Common.{arith}
 use Rattle.tick_plan.proofs.Counts.{few_ticks}
 use Rattle.tick_plan.proofs.planned.ticks_of.Goals as goal
 

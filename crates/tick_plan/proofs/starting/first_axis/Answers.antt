@@ -1,6 +1,4 @@
-use Rattle.std.proofs.Common.{◌≡◌, ◌∙◌, sym, ap, refl, subst, arith, ◌+◌, ◌<◌, length, get_or, ℕ}
-use Rattle.tick_tree.specs.Tree.{leaf_of}
-use Rattle.tick_plan.specs.Leaves.{IsLeafOf, leaf_at}
+use Rattle.std.proofs.Common.{◌∙◌, ap, length}
 use Rattle.tick_plan.proofs.FirstPlaces.{first_placed}
 use Rattle.tick_plan.proofs.starting.first_axis.Goals as goal
 

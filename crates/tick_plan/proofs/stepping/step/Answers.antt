@@ -1,4 +1,4 @@
-use Rattle.std.proofs.Common.{◌≡◌, ◌∙◌, sym, refl, subst, Some, None}
+use Rattle.std.proofs.Common.{refl}
 use Rattle.tick_plan.proofs.Steps.{sound_initial, first_step, nothing_left, steps_at}
 use Rattle.tick_plan.proofs.stepping.step.Goals as goal
 

@@ -1,6 +1,5 @@
-use Rattle.std.proofs.Common.{◌≡◌, ◌≢◌, ℕ, ◌+◌, ◌≤◌, ◌<◌, length, get_or, min, arith}
-use Rattle.std.proofs.lemmas.Grind.{common_steps}
-use Rattle.tick_tree.specs.Tree.{IsTree, leaf_of}
+use Rattle.std.proofs.Common.{ℕ, ◌+◌, ◌<◌, length, get_or, arith}
+use Rattle.tick_tree.specs.Tree.{leaf_of}
 use Rattle.tick_tree.proofs.Roots.{root_least, left_less, moved_law, not_below, above_all}
 use Rattle.tick_tree.proofs.moving.advance.Goals as goal
 
@@ -9,9 +8,9 @@ loop-nodes-smaller c =
     let due = c.due_leaf-leaf.ensures.due in
     let positive = c.requires.rising c.due_leaf-leaf.result (omega (arith, c.due_leaf-leaf.ensures.within, c.loop-nodes.invariant.long, c.requires.long)) in
     left_less c.args.limit (length c.args.steps.now) c.due_leaf-leaf.result (leaf_of c.loop-nodes.nodes) (leaf_of c.put.new.nodes)
-        (omega (arith, c.due_leaf-leaf.ensures.within, c.loop-nodes.invariant.long, c.requires.long))
-        (omega (arith, c.put.ensures.own, c.moved_on.ensures, due, c.loop-nodes-test.true, positive, c.requires.below))
-        (omega (arith, due, c.loop-nodes-test.true, c.requires.below)) c.put.ensures.others
+    (omega (arith, c.due_leaf-leaf.ensures.within, c.loop-nodes.invariant.long, c.requires.long))
+    (omega (arith, c.put.ensures.own, c.moved_on.ensures, due, c.loop-nodes-test.true, positive, c.requires.below))
+    (omega (arith, due, c.loop-nodes-test.true, c.requires.below)) c.put.ensures.others
 
 pub returns-clause-leaves : goal.returns-clause-leaves
 returns-clause-leaves c j lt =

@@ -1,4 +1,4 @@
-use Rattle.std.proofs.Common.{◌≡◌, ℕ, ◌+◌, ◌<◌, ◌≤◌, ◌⊎◌, length, get_or, min}
+use Rattle.std.proofs.Common.{◌≡◌, ℕ, ◌+◌, ◌<◌, ◌⊎◌, length, get_or, min}
 use Rattle.tick_tree.specs.Tree.{IsTree, leaf_of}
 use Rattle.tick_tree.proofs.Roots.{left_of}
 use Rattle.tick_tree.proofs.moving.advance.Given as goal

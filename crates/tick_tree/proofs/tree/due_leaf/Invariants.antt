@@ -1,4 +1,4 @@
-use Rattle.std.proofs.Common.{◌≡◌, ◌+◌, ◌-◌, ◌*◌, ◌/◌, ◌<◌, ◌≤◌, get_or, length}
+use Rattle.std.proofs.Common.{◌≡◌, ◌-◌, ◌<◌, get_or, length}
 use Rattle.tick_tree.proofs.tree.due_leaf.Given as goal
 
 abbrev pub invariant-loop-at : goal.invariant-loop-at

@@ -1,7 +1,6 @@
-use Rattle.std.proofs.Common.{◌≡◌, ◌∙◌, sym, ap, refl, subst, arith, length, replicate, Bool, false, ℕ}
+use Rattle.std.proofs.Common.{◌≡◌, ◌∙◌, sym, ap, subst, length, replicate, false}
 use Rattle.std.proofs.lemmas.List.{length-replicate}
 use Rattle.tick_plan.specs.Making.{AreCountable}
-use Rattle.tick_plan.specs.NewPlan.{AreFewEnough, IsFirstCourse}
 use Rattle.tick_plan.proofs.FirstPlaces.{first_whole}
 use Rattle.tick_plan.proofs.NewPlans.{new_left, new_seen}
 use Rattle.tick_plan.proofs.Premises.{countable, have_factors, on_one_grid}
@@ -33,4 +32,4 @@ returns c =
     let none : c.in_ok-risings.risings.items ≡ replicate c.len-sites.result 0 = c.in_ok-risings.ensures.items_if_clones_equal (λ y h. h) in
     let silent : c.in_ok-noted.noted.items ≡ replicate c.len-sites.result false = c.in_ok-noted.ensures.items_if_clones_equal (λ y h. h) in
     rw (sym c.as_slice-clocks.ensures, sym c.as_slice-times.ensures, sym c.len-sites.ensures)
-        (c.in_ok-counted.ensures, new_seen clocks c.as_slice-times.result.now c.args.stop c.len-sites.result c.in_ok-counted.ensures c.in_ok-course.course c.in_ok-course.ensures c.result-1.given.1.0 c.in_ok-risings.risings.items c.in_ok-noted.noted.items none silent)
+    (c.in_ok-counted.ensures, new_seen clocks c.as_slice-times.result.now c.args.stop c.len-sites.result c.in_ok-counted.ensures c.in_ok-course.course c.in_ok-course.ensures c.result-1.given.1.0 c.in_ok-risings.risings.items c.in_ok-noted.noted.items none silent)

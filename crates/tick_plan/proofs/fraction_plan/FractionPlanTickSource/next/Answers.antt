@@ -1,6 +1,6 @@
-use Rattle.std.proofs.Common.{◌≡◌, ◌∙◌, sym, refl, ap, subst, length, rules, Some, None}
-use Rattle.tick_plan.specs.Left.{HasLeft, HasLeft-prop, seen, StepsOn}
-use Rattle.tick_plan.proofs.Planning.{left_after, few_after, few_still, room_before, goes_on, stays, long_after}
+use Rattle.std.proofs.Common.{sym, subst}
+use Rattle.tick_plan.specs.Left.{HasLeft}
+use Rattle.tick_plan.proofs.Planning.{left_after, few_after, few_still, room_before, goes_on, long_after}
 use Rattle.tick_plan.proofs.fraction_plan.FractionPlanTickSource.next.Goals as goal
 
 pub invariant_of-self : goal.invariant_of-self
@@ -11,8 +11,12 @@ invariant_of-self c = let p = c.args.self.now in let s = rw c.in-None.is at (c.s
 pub invariant_of-self-in-Some : goal.invariant_of-self-in-Some
 invariant_of-self-in-Some c = let p = c.args.self.now in let s = rw c.in-Some.is at (c.step.ensures.steps p.left.0 p.left.1) in
     let left = left_after p.course c.step.new.course p.left.0 c.in-Some.moment s in
-    record { whole = c.step.ensures.whole; left = left; long = long_after p.risings.items p.noted.items _ _ p.long c.count_all.ensures.risings c.count_all.ensures.noted;
-      few = few_after p.course c.step.new.course p.left.0 c.in-Some.moment s left p.risings.items _ p.noted.items p.long c.count_all.ensures.risings p.few }
+    record {
+      whole = c.step.ensures.whole;
+      left = left;
+      long = long_after p.risings.items p.noted.items _ _ p.long c.count_all.ensures.risings c.count_all.ensures.noted;
+      few = few_after p.course c.step.new.course p.left.0 c.in-Some.moment s left p.risings.items _ p.noted.items p.long c.count_all.ensures.risings p.few;
+    }
 
 pub count_all-requires-clause-few : goal.count_all-requires-clause-few
 count_all-requires-clause-few c = let p = c.args.self.now in let s = rw c.in-Some.is at (c.step.ensures.steps p.left.0 p.left.1) in room_before p.course c.step.new.course p.left.0 c.in-Some.moment s p.risings.items p.few

@@ -1,4 +1,4 @@
-use Rattle.std.proofs.Common.{◌≡◌, ◌∙◌, sym, refl, ap, length, rules}
+use Rattle.std.proofs.Common.{◌∙◌, sym}
 use Rattle.std.proofs.lemmas.List.{length-set}
 use Rattle.tick_plan.proofs.Planning.{risen}
 use Rattle.tick_plan.proofs.fraction_plan.FractionPlanTickSource.rise.Goals as goal

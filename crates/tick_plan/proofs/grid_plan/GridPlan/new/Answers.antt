@@ -1,13 +1,8 @@
-use Rattle.std.proofs.Common.{◌≡◌, ◌∙◌, sym, ap, refl, subst, arith, length, replicate, Bool, false, ℕ}
+use Rattle.std.proofs.Common.{◌≡◌, ◌∙◌, sym, ap, subst, length, replicate, false}
 use Rattle.std.proofs.lemmas.List.{length-replicate}
-use Rattle.flat_model.specs.declared.clock.Clock.{Clock}
-use Rattle.rational_time.specs.declared.ratio.Ratio.{Ratio}
-use Rattle.flat_model.specs.Runnable.{denominators}
-use Rattle.tick_plan.specs.Axis.{IsAxis}
-use Rattle.tick_plan.specs.Course.{IsWithin}
-use Rattle.tick_plan.specs.Grid.{HaveFactors, IsScaled}
-use Rattle.tick_plan.specs.Making.{IsCommonOf, AreCountable, IsLeastMultiple}
-use Rattle.tick_plan.specs.NewPlan.{AreFewEnough, IsFirstCourse}
+use Rattle.tick_plan.specs.Grid.{HaveFactors}
+use Rattle.tick_plan.specs.Making.{IsCommonOf, AreCountable}
+use Rattle.tick_plan.specs.NewPlan.{IsFirstCourse}
 use Rattle.tick_plan.proofs.NewPlans.{new_left, new_seen, first_within}
 use Rattle.tick_plan.proofs.Premises.{countable, have_factors, on_one_grid}
 use Rattle.tick_plan.proofs.grid_plan.GridPlan.new.Goals as goal
@@ -50,4 +45,4 @@ returns c =
     let none : c.in_ok-risings.risings.items ≡ replicate c.len-sites.result 0 = c.in_ok-risings.ensures.items_if_clones_equal (λ y h. h) in
     let silent : c.in_ok-noted.noted.items ≡ replicate c.len-sites.result false = c.in_ok-noted.ensures.items_if_clones_equal (λ y h. h) in
     rw (sym c.as_slice-clocks.ensures, sym c.as_slice-times.ensures, sym c.len-sites.ensures)
-        (c.in_ok-counted.ensures, new_seen clocks c.as_slice-times.result.now c.args.stop c.len-sites.result c.in_ok-counted.ensures axis.course first c.result-1.given.1.1.1.1.0 c.in_ok-risings.risings.items c.in_ok-noted.noted.items none silent)
+    (c.in_ok-counted.ensures, new_seen clocks c.as_slice-times.result.now c.args.stop c.len-sites.result c.in_ok-counted.ensures axis.course first c.result-1.given.1.1.1.1.0 c.in_ok-risings.risings.items c.in_ok-noted.noted.items none silent)
