@@ -1,0 +1,9 @@
+use Rattle.std.proofs.Common.{Bor, List, ℕ, ◌≡◌, ◌∙◌, sym, refl, rules, inl, inr, true, false, Some, Bool, subst}
+use Rattle.csv.specs.Reading.{Reached, default_config, strip_bom, ReadRecord}
+use Rattle.csv.specs.Records.{fields_of}
+use Rattle.input_table.specs.stream.Standing.{IsStanding, Took}
+use Rattle.input_table.proofs.Standing.{took}
+use Rattle.input_table.proofs.records.Records.next.Goals as goal
+
+pub returns : goal.returns
+returns c text rows is = took text rows c.args.self.now.rdr c.read_byte_record.new.self c.read_byte_record.new.row c.in-Ok.found is (c.in-Ok.ensures.reads is.plain is.ready) (c.in-Ok.ensures.ready is.plain)

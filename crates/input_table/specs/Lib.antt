@@ -1,0 +1,5 @@
+pub mod Fields
+pub mod Headers
+pub mod Rows
+pub mod Tables
+pub mod stream
