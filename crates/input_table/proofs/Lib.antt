@@ -1,4 +1,6 @@
+pub mod Columns
 pub mod Counts
+pub mod Found
 pub mod Numbers
 pub mod Standing
 pub mod Sums

@@ -11,7 +11,7 @@ use Rattle.csv.specs.declared.reader.Reader.{Reader}
 use Rattle.csv.specs.declared.record.ByteRecord.{ByteRecord}
 use Rattle.csv.proofs.ReadFacts.{rows-more, rows-end}
 use Rattle.input_table.specs.Fields.{Record}
-use Rattle.input_table.specs.stream.Standing.{IsStanding, Took, Begin}
+use Rattle.input_table.specs.private.Standing.{IsStanding, Took, Begin}
 use Rattle.input_table.proofs.Counts.{first_of_all, are_all, records_few, next_few, length-strip_bom}
 
 -- the records that a reader gave are the first of the text

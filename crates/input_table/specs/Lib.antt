@@ -2,4 +2,4 @@ pub mod Fields
 pub mod Headers
 pub mod Rows
 pub mod Tables
-pub mod stream
+pub mod private

@@ -12,7 +12,7 @@ pub(crate) struct Records<'a> {
 }
 
 impl<'a> Records<'a> {
-    ghost use Rattle.input_table.specs.stream.Standing.{IsStanding, Took};
+    ghost use Rattle.input_table.specs.private.Standing.{IsStanding, Took};
     ghost use Rattle.input_table.specs.Fields.{Record};
 
     pub(crate) fn new(alloc: Global, bytes: &'a [u8]) -> Records<'a>
