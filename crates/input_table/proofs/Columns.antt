@@ -1,15 +1,20 @@
 -- The columns of a header, one after the other.
-use Rattle.std.proofs.Common.{◌≡◌, ◌≢◌, ◌∙◌, ap, sym, subst, refl, ℕ, zero, suc, ◌+◌, ◌-◌, ◌<◌, ◌≤◌, ◌⊎◌, inl, inr, Bool, true, false, List, [], ◌∷◌, ◌++◌, length, Option, Some, None, slice_get, get_or, set, arith, get_or-set_same, get_or-set_other}
+use Rattle.std.proofs.Common.{◌≡◌, ◌≢◌, ◌∙◌, ap, sym, subst, refl, ℕ, zero, suc, ◌+◌, ◌-◌, ◌<◌, ◌≤◌, ◌⊎◌, inl, inr, Bool, true, false, List, [], ◌∷◌, ◌++◌, length, Option, Some, None, Err, slice_get, get_or, set, take, drop, arith, get_or-set_same, get_or-set_other}
 use Rattle.std.proofs.lemmas.Option.{slice_get_within, slice_get-get_or, get_or_from_slice_get}
 use Rattle.std.proofs.lemmas.Bool.{false≢true}
 use Rattle.std.proofs.lemmas.Bool.Decides.{eqb_tells}
 use Rattle.std.proofs.lemmas.List.{length-append}
+use Rattle.std.proofs.Math.Seq.{take-append_seam}
 use Rattle.flat_model.specs.declared.model.FlatName.{FlatName}
 use Rattle.flat_model.specs.Models.{AreNames}
 use Rattle.flat_model.specs.Tables.{AreColumns}
+use Rattle.flat_model.specs.declared.place.Place.TheVariants as place
+use Rattle.input_table.specs.declared.ends.TableCode.TheVariants.{I2}
+use Rattle.input_table.specs.declared.ends.TableEnd.{TableEnd}
+use Rattle.input_table.specs.declared.ends.TableEnd.TheVariants.{Fault, NoMemory}
 use Rattle.input_table.specs.Fields.{Record, text_in}
 use Rattle.input_table.specs.Headers.{IsInputCalled, IsWrongColumn, IsMissing}
-use Rattle.input_table.specs.private.Finding.{IsFound, AreFirst, AreNoted, AreWhole, IsFirstWrong, IsFirstMissing}
+use Rattle.input_table.specs.private.Finding.{IsFound, AreFirst, AreNoted, AreWhole, IsFirstWrong, IsFirstMissing, IsMissingFault, ColumnsAre}
 
 -- what a list with one element more has
 pub in_push : {A : Type 0} (xs : List A) (x y : A) (k : ℕ) → slice_get (xs ++ x ∷ []) k ≡ Some y → ((k < length xs) × (slice_get xs k ≡ Some y)) ⊎ ((k ≡ length xs) × (y ≡ x))
@@ -191,3 +196,32 @@ noted_one_more columns seen x was within = record { noted = noted; only = only }
         | inl same ↦ (length columns, rw same.1 (push_last columns [] x))
         | inr apart ↦ let k = was.only y (sym (others y apart.1) ∙ is) in (k.0, push_keeps columns (x ∷ []) y k.0 k.1)
       ]
+
+-- I2, or no memory for it
+pub missing_is : (names : List FlatName) (header : Record) (text : List ℕ) (end : TableEnd) → IsMissingFault text end → ((c : ℕ) → IsWrongColumn names header c → ⊥)
+    → IsFirstMissing names header text → ColumnsAre names header (Err end)
+missing_is names header text (Fault I2 (place.Name other)) is right missing = (right, subst (λ t. IsFirstMissing names header t) (sym is) missing)
+missing_is names header text (Fault code at) is right missing = absurd is
+missing_is names header text NoMemory is right missing = tt
+
+-- a name below the next number is noted, if it is an input
+pub checked_more : (names : List FlatName) (seen : List Bool) (at : ℕ) (name : FlatName) → at < length names → name ≡ get_or names at name
+    → (name.input ≡ true → get_or seen at false ≡ true)
+    → ((y : ℕ) (other : FlatName) → y < at → slice_get names y ≡ Some other → other.input ≡ true → get_or seen y false ≡ true)
+    → (y : ℕ) (other : FlatName) → y < at + 1 → slice_get names y ≡ Some other → other.input ≡ true → get_or seen y false ≡ true
+checked_more names seen at name less is here below y other under found input = elim (eqb_tells y at) [
+    | inl same ↦
+        let there : slice_get names at ≡ Some name = slice_get-get_or names at name less ∙ ap (λ (n : FlatName). Some n) (sym is) in
+        let again : slice_get names at ≡ Some other = subst (λ z. slice_get names z ≡ Some other) same.1 found in
+        let one : name ≡ other = cc in
+        subst (λ z. get_or seen z false ≡ true) (sym same.1) (here (ap (λ (n : FlatName). n.input) one ∙ input))
+    | inr apart ↦ below y other (omega (arith, apart.1)) found input
+  ]
+
+-- the element of a number
+pub name_at : (names : List FlatName) (at : ℕ) (name : FlatName) → at < length names → name ≡ get_or names at name → slice_get names at ≡ Some name
+name_at names at name less is = slice_get-get_or names at name less ∙ ap (λ (n : FlatName). Some n) (sym is)
+
+-- a vector written through a slice of all of it
+pub restored : (ws xs : List Bool) (n : ℕ) → length ws ≡ n → take n (ws ++ drop (length ws) xs) ≡ ws
+restored ws xs n long = ap (λ m. take m (ws ++ drop (length ws) xs)) (sym long) ∙ take-append_seam ws (drop (length ws) xs)

@@ -1,7 +1,8 @@
 -- The map of the inputs by their texts.
-use Rattle.std.proofs.Common.{◌≡◌, ◌∙◌, ap, sym, subst, refl, ℕ, ◌+◌, ◌<◌, ◌⊎◌, inl, inr, Bool, true, false, cond, List, [], ◌∷◌, Option, Some, None, slice_get, arith}
+use Rattle.std.proofs.Common.{◌≡◌, ◌∙◌, ap, sym, subst, refl, ℕ, ◌+◌, ◌<◌, ◌≤◌, ◌⊎◌, inl, inr, length, get_or, Bool, true, false, cond, List, [], ◌∷◌, Option, Some, None, slice_get, arith}
 use Rattle.std.specs.Borrow.{Bor}
 use Rattle.std.specs.Str.{bytes_eq}
+use Rattle.std.proofs.lemmas.Option.{slice_get_within, slice_get-get_or}
 use Rattle.std.proofs.lemmas.Slice.Eq.{bytes_eq-Decides}
 use Rattle.std.proofs.lemmas.Bool.Decides.{eqb_tells}
 use Rattle.indexmap.specs.IndexMap.{insert_entry}
@@ -85,3 +86,25 @@ all_found names text at (Some x) within below = below
 pub found_of : (names : List FlatName) (entries : Entries) (text other : List ℕ) (found : Option ℕ) → ((text : List ℕ) → IsFound names text (number_of text entries))
     → text ≡ other → found ≡ number_of text entries → IsFound names other found
 found_of names entries text other found finds same is = subst (λ t. IsFound names t found) same (subst (λ o. IsFound names text o) (sym is) (finds text))
+
+-- an input is noted, and all below the next number are found
+pub noted_in : (names : List FlatName) (at : ℕ) (before after : Entries) (key : List ℕ) → ((text : List ℕ) → FoundBelow names at text (number_of text before))
+    → ((other : List ℕ) → number_of other after ≡ cond (bytes_eq other key) (Some at) (number_of other before)) → IsInputCalled names key at
+    → (text : List ℕ) → FoundBelow names (at + 1) text (number_of text after)
+noted_in names at before after key below is input text =
+    subst (λ o. FoundBelow names (at + 1) text o) (sym (is text)) (noted_more names at text key (number_of text before) (below text) input)
+
+-- the input of a number
+pub input_at : (names : List FlatName) (at : ℕ) (name : FlatName) → at < length names → name ≡ get_or names at name → name.input ≡ true → IsInputCalled names name.text at
+input_at names at name less is input = (name, slice_get-get_or names at name less ∙ ap (λ (n : FlatName). Some n) (sym is), input, refl)
+
+pub no_input_at : (names : List FlatName) (at : ℕ) (name : FlatName) → at < length names → name ≡ get_or names at name → name.input ≡ false → (text : List ℕ) → IsInputCalled names text at → ⊥
+no_input_at names at name less is input text (other, found, so, called) =
+    let there : slice_get names at ≡ Some name = slice_get-get_or names at name less ∙ ap (λ (n : FlatName). Some n) (sym is) in
+    let one : other ≡ name = cc in
+    let bad : true ≡ false = sym so ∙ ap (λ (n : FlatName). n.input) one ∙ input in cc
+
+-- the inputs of all numbers are found
+pub whole_found : (names : List FlatName) (at : ℕ) (entries : Entries) → length names ≤ at → ((text : List ℕ) → FoundBelow names at text (number_of text entries)) → (text : List ℕ) → IsFound names text (number_of text entries)
+whole_found names at entries past below text =
+    all_found names text at (number_of text entries) (λ x is. let less = slice_get_within names x is.0 is.1 in omega (arith, less, past)) (below text)

@@ -1,8 +1,11 @@
+pub mod Cells
 pub mod Columns
 pub mod Counts
 pub mod Found
 pub mod Numbers
+pub mod Held
 pub mod Standing
 pub mod Sums
 pub mod Texts
 pub mod Times
+pub mod Whole

@@ -50,9 +50,14 @@ cell_of_row None k = None
 cell_of_row (Some row) k = slice_get row.cells k
 
 -- the first instant is 0, and each later one is above the one before
-abbrev pub IsInOrder : Option Row → Ratio → Type 0
+abbrev pub IsInOrder : Option Ratio → Ratio → Type 0
 IsInOrder None t = t.num ≡ 0
-IsInOrder (Some row) t = Below row.time t
+IsInOrder (Some last) t = Below last t
+
+-- the value that a record stands for in the k-th column of an input, below another
+abbrev pub ValueIs : Form → List FlatName → List ℕ → Option Value → Record → ℕ → Value → Type 0
+ValueIs form names columns above record_ k v = (x : ℕ) × (name : FlatName) × (slice_get columns k ≡ Some x) × (slice_get names x ≡ Some name)
+    × IsCell form above name.kind (text_in record_ (k + 1)) v
 
 module _ (form : Form) (names : List FlatName) (columns : List ℕ) (before : Option Row) (record_ : Record) where
   -- a record of the length of the header
@@ -63,27 +68,23 @@ module _ (form : Form) (names : List FlatName) (columns : List ℕ) (before : Op
   abbrev pub TimeIs : Ratio → Type 0
   TimeIs t = IsInstant form (time_of_row before) (text_in record_ 0) t
 
-  -- the value that a record stands for in the k-th column of an input
-  abbrev pub ValueIs : ℕ → Value → Type 0
-  ValueIs k v = (x : ℕ) × (name : FlatName) × (slice_get columns k ≡ Some x) × (slice_get names x ≡ Some name)
-      × IsCell form (cell_of_row before k) name.kind (text_in record_ (k + 1)) v
-
   -- the row that a record stands for
   pub record IsRow (row : Row) : Type 0 where
     pub full : IsFull
     pub time : TimeIs row.time
-    pub order : IsInOrder before row.time
+    pub order : IsInOrder (time_of_row before) row.time
     pub wide : length row.cells ≡ length columns
-    pub values : (k : ℕ) (v : Value) → slice_get row.cells k ≡ Some v → ValueIs k v
+    pub values : (k : ℕ) (v : Value) → slice_get row.cells k ≡ Some v → ValueIs form names columns (cell_of_row before k) record_ k v
 
   -- the first rule that a record breaks, and in which column, counted from 1
   pub data BreaksIn : TableCode → ℕ → Type 0 where
     length_ : length record_ ≢ length columns + 1 → BreaksIn I7 (min (length record_) (length columns + 1) + 1)
     time : IsFull → ((t : Ratio) → TimeIs t → ⊥) → BreaksIn I4 1
-    start : IsFull → before ≡ None → (t : Ratio) → TimeIs t → (IsInOrder before t → ⊥) → BreaksIn I5 1
-    rising : IsFull → (last : Row) → before ≡ Some last → (t : Ratio) → TimeIs t → (IsInOrder before t → ⊥) → BreaksIn I6 1
-    value : IsFull → (t : Ratio) → TimeIs t → IsInOrder before t → (k : ℕ) → k < length columns
-        → ((j : ℕ) → j < k → (v : Value) × ValueIs j v) → ((v : Value) → ValueIs k v → ⊥) → BreaksIn I4 (k + 2)
+    start : IsFull → before ≡ None → (t : Ratio) → TimeIs t → t.num ≢ 0 → BreaksIn I5 1
+    rising : IsFull → (last : Row) → before ≡ Some last → (t : Ratio) → TimeIs t → (Below last.time t → ⊥) → BreaksIn I6 1
+    value : IsFull → (t : Ratio) → TimeIs t → IsInOrder (time_of_row before) t → (k : ℕ) → k < length columns
+        → ((j : ℕ) → j < k → (v : Value) × ValueIs form names columns (cell_of_row before j) record_ j v)
+        → ((v : Value) → ValueIs form names columns (cell_of_row before k) record_ k v → ⊥) → BreaksIn I4 (k + 2)
 
 -- the last of the rows behind a row
 abbrev pub last_row : Option Row → List Row → Option Row

@@ -1,4 +1,5 @@
-ghost use Rattle.std.specs.Prelude.{◌≡◌, ◌<◌, ◌^◌, ℕ, List, length, true, false, slice_index_or, IfOk, MatchOption};
+ghost use Rattle.std.specs.Prelude.{◌≡◌, ◌<◌, ◌^◌, ℕ, List, length, true, false, slice_index_or, IfOk, OnOk, MatchOption, Some, if◌then◌else◌};
+ghost use Rattle.std.specs.Str.{bytes_eq};
 ghost use Rattle.flat_model.specs.declared.model.FlatName.{FlatName};
 ghost use Rattle.flat_model.specs.Models.{AreNames};
 ghost use Rattle.csv.specs.Records.{fields_of};
@@ -12,7 +13,7 @@ use crate::fields::text_in;
 use csv::ByteRecord;
 use flat_model::{FlatName, Place};
 use indexmap::IndexMap;
-use std::alloc::Global;
+use std::alloc::{AllocError, Global};
 use sync_values::{List, Text};
 
 /// The two forms of a table. In the short form a time may be added to the one before, and an empty cell keeps the
@@ -42,18 +43,31 @@ pub(crate) fn form_of(header: &ByteRecord) -> Option<Form>
     }
 }
 
+/// Notes a number for a text.
+fn note<'a>(
+    found: &mut IndexMap<&'a [u8], u32>,
+    text: &'a [u8],
+    number: u32,
+) -> Result<(), AllocError>
+    ensures { OnOk result ((other : List ℕ) → number_of other found.new.entries ≡ (if bytes_eq other text.now then Some number else number_of other found.old.entries)) }
+{
+    found.insert(text, number)?;
+    Ok(())
+}
+
 /// The inputs by their texts.
 fn inputs<'a>(
     alloc: Global,
     names: &'a [FlatName],
-) -> Result<IndexMap<&'a [u8], u32>, TableEnd>
+) -> Result<IndexMap<&'a [u8], u32>, AllocError>
     requires { AreNames names.now }
     ensures { IfOk result (λ map. FindsInputs names.now map.entries) }
 {
     let mut found = IndexMap::new(alloc);
     for at in 0..names.len() {
-        if names[at].input && found.insert(names[at].text.as_bytes(), at as u32).is_err() {
-            return Err(TableEnd::NoMemory);
+        let name = &names[at];
+        if name.input {
+            note(&mut found, name.text.as_bytes(), at as u32)?;
         }
     }
     Ok(found)
@@ -111,8 +125,9 @@ fn first_missing<'a>(names: &'a [FlatName], seen: &[bool]) -> Option<&'a Text>
         MatchOption result (AreWhole names.now header columns) (λ text. IsFirstMissing names.now header text.now) }
 {
     for at in 0..names.len() {
-        if names[at].input && !seen[at] {
-            return Some(&names[at].text);
+        let name = &names[at];
+        if name.input && !seen[at] {
+            return Some(&name.text);
         }
     }
     None

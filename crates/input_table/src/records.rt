@@ -1,4 +1,4 @@
-ghost use Rattle.std.specs.Prelude.{◌≡◌, ℕ, List, [], IfOk};
+ghost use Rattle.std.specs.Prelude.{◌≡◌, ℕ, List, [], IfOk, IfErr};
 
 use crate::ends::TableEnd;
 use csv::{ByteRecord, Reader, ReaderBuilder};
@@ -31,8 +31,9 @@ impl<'a> Records<'a> {
 
     /// Takes the next record, if there is one.
     pub(crate) fn next(&mut self) -> Result<bool, TableEnd>
-        ensures { (text : List ℕ) (rows : List Record) → IsStanding text rows self.old.rdr
+        ensures took { (text : List ℕ) (rows : List Record) → IsStanding text rows self.old.rdr
             → IfOk result (λ found. Took text rows found self.new.rdr self.new.row) }
+        ensures memory { IfErr result (λ end. end ≡ TableEnd.NoMemory) }
     {
         let Ok(found) = self.rdr.read_byte_record(&mut self.row) else {
             return Err(TableEnd::NoMemory);
