@@ -2,6 +2,7 @@ pub mod Cells
 pub mod Columns
 pub mod Counts
 pub mod Found
+pub mod NoTable
 pub mod Numbers
 pub mod Held
 pub mod Standing

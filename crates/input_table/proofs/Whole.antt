@@ -1,5 +1,5 @@
 -- The whole table: its answers, and that it is one of the model.
-use Rattle.std.proofs.Common.{◌≡◌, ◌≢◌, ◌∙◌, ap, sym, subst, refl, ℕ, zero, suc, ◌+◌, ◌*◌, ◌-◌, ◌<◌, ◌≤◌, ◌^◌, ◌⊎◌, inl, inr, true, false, List, [], ◌∷◌, ◌++◌, length, Option, Some, None, Result, Ok, Err, MatchResult, slice_get, get_or, All, ℤ, pos, neg_ℤ, arith}
+use Rattle.std.proofs.Common.{◌≡◌, ◌≢◌, ◌∙◌, ap, sym, subst, refl, ℕ, zero, suc, ◌+◌, ◌*◌, ◌-◌, ◌<◌, ◌≤◌, ◌^◌, ◌⊎◌, inl, inr, true, false, List, [], ◌∷◌, ◌++◌, length, Option, Some, None, Result, Ok, Err, IfOk, MatchResult, slice_get, get_or, All, ℤ, pos, neg_ℤ, arith}
 use Rattle.std.specs.Borrow.{Bor}
 use Rattle.std.proofs.lemmas.Option.{slice_get_within}
 use Rattle.std.proofs.lemmas.List.{length-append}
@@ -20,7 +20,7 @@ use Rattle.flat_model.specs.Assignment.{IsOfKind}
 use Rattle.flat_model.specs.Moments.{IsRising}
 use Rattle.flat_model.specs.Tables.{IsTime, IsTableOf, AreColumns, StartAtZero}
 use Rattle.input_table.specs.declared.ends.TableCode.{TableCode}
-use Rattle.input_table.specs.declared.ends.TableCode.TheVariants.{I2, I3, I5}
+use Rattle.input_table.specs.declared.ends.TableCode.TheVariants.{I1, I2, I3, I5}
 use Rattle.input_table.specs.declared.ends.TableEnd.{TableEnd}
 use Rattle.input_table.specs.declared.ends.TableEnd.TheVariants.{Fault, NoMemory}
 use Rattle.input_table.specs.declared.header.Form.{Form}
@@ -255,3 +255,38 @@ body_table form model columns all header table inputs (records_, rows, all_is, s
             (subst (λ cs. slice_get cs k ≡ Some x) columns_are column) found (subst (λ vs. slice_get vs (row * length table.columns + k) ≡ Some v) hold.cells_are there);
       };
     }
+
+-- the answers of `read_table`, one by one
+
+pub no_records : (names : List FlatName) (all : List Record) (end : TableEnd) → all ≡ [] → end ≡ Fault I1 (place.Cell 0 1) → Answers names all (Err end)
+no_records names all end none is =
+    subst (λ rs. Answers names rs (Err end)) (sym none) (subst (λ e. Answers names [] (Err e)) (sym is) no_header)
+
+pub no_form : (names : List FlatName) (all : List Record) (header other : Record) (rest : List Record) (end : TableEnd) → all ≡ header ∷ rest → other ≡ header
+    → ((form : Form) → BeginsAs form other → ⊥) → end ≡ Fault I1 (place.Cell 0 1) → Answers names all (Err end)
+no_form names all header other rest end all_is same none is =
+    subst (λ rs. Answers names rs (Err end)) (sym all_is)
+        (subst (λ e. Answers names (header ∷ rest) (Err e)) (sym is) (no_time header rest (λ form begins. none form (subst (λ h. BeginsAs form h) (sym same) begins))))
+
+pub columns_fault : (names names_ : List FlatName) (all : List Record) (header first second : Record) (rest : List Record) (form : Form) (end : TableEnd) → all ≡ header ∷ rest → names_ ≡ names
+    → first ≡ header → second ≡ header → BeginsAs form first → ColumnsAre names_ second (Err end) → Answers names all (Err end)
+columns_fault names names_ all header first second rest form end all_is names_is first_is second_is begins wrong =
+    subst (λ rs. Answers names rs (Err end)) (sym all_is)
+        (columns_break names header rest form end (subst (λ h. BeginsAs form h) first_is begins)
+          (subst (λ ns. ColumnsAre ns header (Err end)) names_is (subst (λ h. ColumnsAre names_ h (Err end)) second_is wrong)))
+
+pub whole_moved : (names names_ : List FlatName) (header second : Record) (columns : List ℕ) → names_ ≡ names → second ≡ header → AreWhole names_ second columns → AreWhole names header columns
+whole_moved names names_ header second columns names_is second_is whole =
+    subst (λ ns. AreWhole ns header columns) names_is (subst (λ h. AreWhole names_ h columns) second_is whole)
+
+pub rows_answer : (names names_ : List FlatName) (all : List Record) (header first : Record) (form : Form) (columns : List ℕ) (r : Result Table TableEnd) → names_ ≡ names → first ≡ header
+    → BeginsAs form first → AreWhole names header columns → BodyAnswers form names_ columns all header r → Answers names all r
+rows_answer names names_ all header first form columns r names_is first_is begins whole answers =
+    body_answers form names columns all header r (header_is form names header columns (subst (λ h. BeginsAs form h) first_is begins) whole)
+        (subst (λ ns. BodyAnswers form ns columns all header r) names_is answers)
+
+pub rows_table : (model : FlatModel) (names_ : List FlatName) (all : List Record) (header : Record) (form : Form) (columns : List ℕ) (r : Result Table TableEnd) → names_ ≡ model.names
+    → AreWhole model.names header columns → BodyAnswers form names_ columns all header r → IfOk r (IsTableOf model)
+rows_table model names_ all header form columns (Ok table) names_is whole answers =
+    body_table form model columns all header table whole.are (subst (λ ns. BodyAnswers form ns columns all header (Ok table)) names_is answers)
+rows_table model names_ all header form columns (Err end) names_is whole answers = tt

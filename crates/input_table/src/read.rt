@@ -103,7 +103,9 @@ pub fn no_table(alloc: Global, flat: &FlatModel) -> Result<Table, TableEnd>
     ensures answers { AnswersNone flat.now.names result }
     ensures table { IfOk result (IsTableOf flat.now) }
 {
-    for name in flat.names.as_slice() {
+    let names = flat.names.as_slice();
+    for at in 0..names.len() {
+        let name = &names[at];
         if name.input {
             return Err(missing(alloc, &name.text));
         }
