@@ -1,5 +1,5 @@
 -- The cells of a record and the rules that it breaks.
-use Rattle.std.proofs.Common.{◌≡◌, ◌≢◌, ◌∙◌, ap, sym, subst, refl, ℕ, zero, suc, ◌+◌, ◌*◌, ◌-◌, ◌<◌, ◌≤◌, ◌⊎◌, inl, inr, true, false, List, [], ◌∷◌, ◌++◌, length, Option, Some, None, Result, Ok, Err, IfSome, slice_get, get_or, All, arith}
+use Rattle.std.proofs.Common.{◌≡◌, ◌∙◌, ap, sym, subst, refl, ℕ, ◌+◌, ◌-◌, ◌<◌, inl, inr, false, List, [], ◌∷◌, ◌++◌, length, Option, Some, None, Ok, Err, IfSome, slice_get, get_or, All, arith}
 use Rattle.std.proofs.lemmas.Option.{slice_get_within, slice_get-get_or, get_or_from_slice_get}
 use Rattle.std.specs.Cmp.{nat_cmp_is}
 use Rattle.std.specs.Ordering.{nat_cmp}
@@ -11,15 +11,15 @@ use Rattle.sync_values.specs.declared.value.Value.{Value}
 use Rattle.sync_values.specs.declared.value.Value.TheVariants as value
 use Rattle.flat_model.specs.declared.model.FlatName.{FlatName}
 use Rattle.flat_model.specs.declared.place.Place.TheVariants as place
-use Rattle.flat_model.specs.Tables.{IsTime, IsInput}
+use Rattle.flat_model.specs.Tables.{IsTime}
 use Rattle.input_table.specs.declared.ends.TableCode.{TableCode}
 use Rattle.input_table.specs.declared.ends.TableCode.TheVariants.{I1, I2, I3, I4, I5, I6, I7}
 use Rattle.input_table.specs.declared.ends.TableEnd.{TableEnd}
 use Rattle.input_table.specs.declared.ends.TableEnd.TheVariants.{Fault, NoMemory}
 use Rattle.input_table.specs.declared.header.Form.{Form}
 use Rattle.input_table.specs.Fields.{Record, text_in}
-use Rattle.input_table.specs.Rows.{Row, IsInstant, IsInOrder, IsCell, ValueIs, IsRow, BreaksIn, length_, time, start, rising, value, last_row, times_of, cells_of, time_of_row, cell_of_row}
-use Rattle.input_table.specs.private.Reading.{Hold, above_in, above_next, last_time, TimeAnswers, CellsAnswer, RowAnswers}
+use Rattle.input_table.specs.Rows.{Row, IsInstant, IsInOrder, IsCell, ValueIs, BreaksIn, time, start, rising, value, last_row, time_of_row, cell_of_row}
+use Rattle.input_table.specs.private.Reading.{Hold, above_in, last_time, TimeAnswers, CellsAnswer, RowAnswers}
 use Rattle.input_table.proofs.Columns.{in_push}
 use Rattle.input_table.proofs.Held.{above_row, last_time_is, hold_more}
 
@@ -40,7 +40,7 @@ module _ (form : Form) (names : List FlatName) (columns : List ℕ) (record_ : R
       let there : slice_get names x ≡ Some other = subst (λ z. slice_get names z ≡ Some other) one found_ in
       let name_is : other ≡ name = cc in
       none v (subst (λ t. IsCell form above name.kind t v) (sym text_is) (subst (λ a. IsCell form a name.kind (text_in record_ (k + 1)) v) (sym same)
-          (subst (λ (n : FlatName). IsCell form above_ n.kind (text_in record_ (k + 1)) v) name_is cell)))
+      (subst (λ (n : FlatName). IsCell form above_ n.kind (text_in record_ (k + 1)) v) name_is cell)))
 
   pub is_value : (k x : ℕ) (name : FlatName) (above above_ : Option Value) (text : List ℕ) (v : Value) → slice_get columns k ≡ Some x → slice_get names x ≡ Some name
       → above ≡ above_ → text ≡ text_in record_ (k + 1) → IsCell form above name.kind text v → ValueIs form names columns above_ record_ k v
@@ -54,10 +54,10 @@ module _ (form : Form) (names : List FlatName) (columns : List ℕ) (record_ : R
   pub taken_more : (old taken : List Value) (v : Value) → AreTaken old taken → ValueIs form names columns (above_in (length columns) old (length taken)) record_ (length taken) v
       → AreTaken old (taken ++ v ∷ [])
   taken_more old taken v were is k w there = elim (in_push taken v w k there) [
-      | inl before ↦ were k w before.1
-      | inr last ↦ subst (λ n. ValueIs form names columns (above_in (length columns) old n) record_ n w) (sym last.0)
-          (subst (λ u. ValueIs form names columns (above_in (length columns) old (length taken)) record_ (length taken) u) (sym last.1) is)
-    ]
+    | inl before ↦ were k w before.1
+    | inr last ↦ subst (λ n. ValueIs form names columns (above_in (length columns) old n) record_ n w) (sym last.0)
+        (subst (λ u. ValueIs form names columns (above_in (length columns) old (length taken)) record_ (length taken) u) (sym last.1) is)
+  ]
 
   -- the cells before one have values
   pub taken_before : (old taken : List Value) (k : ℕ) → AreTaken old taken → length taken ≡ k → (j : ℕ) → j < k
@@ -95,7 +95,7 @@ module _ (form : Form) (names : List FlatName) (columns : List ℕ) (record_ : R
   time_breaks before last text I6 same text_is full (l, there, t, is, off) =
       let row = some_row before l (sym same ∙ there) in
       rising full row.0 row.1 t (subst (λ l. IsInstant form l (text_in record_ 0) t) same (subst (λ x. IsInstant form last x t) text_is is))
-          (λ below. off (subst (λ r. Below r t) row.2 below))
+      (λ below. off (subst (λ r. Below r t) row.2 below))
   time_breaks before last text I1 same text_is full bad = absurd bad
   time_breaks before last text I2 same text_is full bad = absurd bad
   time_breaks before last text I3 same text_is full bad = absurd bad
@@ -131,11 +131,13 @@ module _ (form : Form) (names : List FlatName) (columns : List ℕ) (record_ : R
       → IsInstant form last text t × IsInOrder last t × IsTime t → CellsAnswer form names columns record_ number old (Err end) new
       → RowAnswers form names columns rows record_ number (Err end) times_ new
   cells_break rows times old new last text t number (Fault I4 (place.Cell row column)) times_ hold last_is text_is full is (row_is, k, column_is, less, before, none) =
-      let moved = time_moved rows times old last text t hold last_is text_is (is.0, is.1) in
-      (row_is, subst (λ c. BreaksIn form names columns (last_row None rows) record_ I4 c) (sym column_is)
-          (value full t moved.0 moved.1 k less
-              (λ j small. let v = before j small in (v.0, value_moved rows times old j v.0 hold (omega (arith, small, less)) v.1))
-              (λ v there. none v (subst (λ a. ValueIs form names columns a record_ k v) (sym (above_is_row rows times old k hold less)) there))))
+      let moved = time_moved rows times old last text t hold last_is text_is (is.0, is.1) in (
+        row_is,
+        subst (λ c. BreaksIn form names columns (last_row None rows) record_ I4 c) (sym column_is)
+            (value full t moved.0 moved.1 k less
+            (λ j small. let v = before j small in (v.0, value_moved rows times old j v.0 hold (omega (arith, small, less)) v.1))
+            (λ v there. none v (subst (λ a. ValueIs form names columns a record_ k v) (sym (above_is_row rows times old k hold less)) there))),
+      )
   cells_break rows times old new last text t number (Fault code at) times_ hold last_is text_is full is bad = absurd bad
   cells_break rows times old new last text t number NoMemory times_ hold last_is text_is full is answers = tt
 
@@ -146,14 +148,18 @@ module _ (form : Form) (names : List FlatName) (columns : List ℕ) (record_ : R
       → RowAnswers form names columns rows record_ number (Ok done) times_ new
   row_read rows times times_ old new last text t number done hold last_is text_is full is (taken, new_is, long, were) times_is =
       let moved = time_moved rows times old last text t hold last_is text_is (is.0, is.1) in
-      let held = hold_more (length columns) rows times old taken t hold long is.2 in
-      (record { time = t; cells = taken },
-       record {
-         full = full; time = moved.0; order = moved.1; wide = long;
-         values = λ k v there. let less = slice_get_within taken k v there in value_moved rows times old k v hold (omega (arith, less, long)) (were k v there);
-       },
-       subst (λ ts. Hold (length columns) (rows ++ (record { time = t; cells = taken }) ∷ []) ts new) (sym times_is)
-         (subst (λ vs. Hold (length columns) (rows ++ (record { time = t; cells = taken }) ∷ []) (times ++ t ∷ []) vs) (sym new_is) held))
+      let held = hold_more (length columns) rows times old taken t hold long is.2 in (
+        record { time = t; cells = taken },
+        record {
+          full = full;
+          time = moved.0;
+          order = moved.1;
+          wide = long;
+          values = λ k v there. let less = slice_get_within taken k v there in value_moved rows times old k v hold (omega (arith, less, long)) (were k v there);
+        },
+        subst (λ ts. Hold (length columns) (rows ++ (record { time = t; cells = taken }) ∷ []) ts new) (sym times_is)
+            (subst (λ vs. Hold (length columns) (rows ++ (record { time = t; cells = taken }) ∷ []) (times ++ t ∷ []) vs) (sym new_is) held),
+      )
 
 -- numbers of which the first is not less
 pub not_below : (m n : ℕ) (r : Ordering) → r ≡ nat_cmp m n → (r ≡ Less → ⊥) → m < n → ⊥

@@ -1,5 +1,5 @@
 -- The columns of a header, one after the other.
-use Rattle.std.proofs.Common.{◌≡◌, ◌≢◌, ◌∙◌, ap, sym, subst, refl, ℕ, zero, suc, ◌+◌, ◌-◌, ◌<◌, ◌≤◌, ◌⊎◌, inl, inr, Bool, true, false, List, [], ◌∷◌, ◌++◌, length, Option, Some, None, Err, slice_get, get_or, set, take, drop, arith, get_or-set_same, get_or-set_other}
+use Rattle.std.proofs.Common.{◌≡◌, ◌≢◌, ◌∙◌, ap, sym, subst, refl, ℕ, zero, suc, ◌+◌, ◌-◌, ◌<◌, ◌⊎◌, inl, inr, Bool, true, false, List, [], ◌∷◌, ◌++◌, length, Some, None, Err, slice_get, get_or, set, take, drop, arith, get_or-set_same, get_or-set_other}
 use Rattle.std.proofs.lemmas.Option.{slice_get_within, slice_get-get_or, get_or_from_slice_get}
 use Rattle.std.proofs.lemmas.Bool.{false≢true}
 use Rattle.std.proofs.lemmas.Bool.Decides.{eqb_tells}
@@ -7,7 +7,6 @@ use Rattle.std.proofs.lemmas.List.{length-append}
 use Rattle.std.proofs.Math.Seq.{take-append_seam}
 use Rattle.flat_model.specs.declared.model.FlatName.{FlatName}
 use Rattle.flat_model.specs.Models.{AreNames}
-use Rattle.flat_model.specs.Tables.{AreColumns}
 use Rattle.flat_model.specs.declared.place.Place.TheVariants as place
 use Rattle.input_table.specs.declared.ends.TableCode.TheVariants.{I2}
 use Rattle.input_table.specs.declared.ends.TableEnd.{TableEnd}
@@ -22,9 +21,9 @@ in_push [] x y zero is = let same : x ≡ y = cc in inr (refl, sym same)
 in_push [] x y (suc k) is = cc
 in_push (z ∷ zs) x y zero is = inl (omega arith, is)
 in_push (z ∷ zs) x y (suc k) is = elim (in_push zs x y k is) [
-    | inl old ↦ inl (omega (arith, old.0), old.1)
-    | inr last ↦ inr (omega (arith, last.0), last.1)
-  ]
+  | inl old ↦ inl (omega (arith, old.0), old.1)
+  | inr last ↦ inr (omega (arith, last.0), last.1)
+]
 
 pub push_keeps : {A : Type 0} (xs ys : List A) (y : A) (k : ℕ) → slice_get xs k ≡ Some y → slice_get (xs ++ ys) k ≡ Some y
 push_keeps [] ys y k is = cc
@@ -99,19 +98,19 @@ module _ (names : List FlatName) (are : AreNames names) where
     pub first_more : (place : ℕ) (columns : List ℕ) (seen : List Bool) (x : ℕ) → AreFirst names header place columns → AreNoted columns seen
         → IsInputCalled names (text_in header place) x → get_or seen x false ≡ false → AreFirst names header (place + 1) (columns ++ x ∷ [])
     first_more place columns seen x first noted is fresh = record {
-        long = omega (arith, first.long, length-append columns (x ∷ []));
-        called = called;
-        once = once;
-      }
+      long = omega (arith, first.long, length-append columns (x ∷ []));
+      called = called;
+      once = once;
+    }
       where
         fresh_in : (k : ℕ) → slice_get columns k ≡ Some x → ⊥
         fresh_in k there = false≢true (sym fresh ∙ noted.noted k x there)
 
         called : (k y : ℕ) → slice_get (columns ++ x ∷ []) k ≡ Some y → IsInputCalled names (text_in header (k + 1)) y
         called k y there = elim (in_push columns x y k there) [
-            | inl old ↦ first.called k y old.1
-            | inr last ↦ let place_is : place ≡ k + 1 = omega (arith, first.long, last.0) in subst (λ n. IsInputCalled names (text_in header n) y) place_is (subst (λ z. IsInputCalled names (text_in header place) z) (sym last.1) is)
-          ]
+          | inl old ↦ first.called k y old.1
+          | inr last ↦ let place_is : place ≡ k + 1 = omega (arith, first.long, last.0) in subst (λ n. IsInputCalled names (text_in header n) y) place_is (subst (λ z. IsInputCalled names (text_in header place) z) (sym last.1) is)
+        ]
 
         both : (i j y : ℕ) → ((i < length columns) × (slice_get columns i ≡ Some y)) ⊎ ((i ≡ length columns) × (y ≡ x))
             → ((j < length columns) × (slice_get columns j ≡ Some y)) ⊎ ((j ≡ length columns) × (y ≡ x)) → i ≡ j
@@ -133,12 +132,12 @@ module _ (names : List FlatName) (are : AreNames names) where
         → ((y : ℕ) (other : FlatName) → y < at → slice_get names y ≡ Some other → other.input ≡ true → get_or seen y false ≡ true)
         → IsFirstMissing names header name.text
     is_missing columns seen at name first noted found input unseen before = record {
-        x = at;
-        name = name;
-        is = refl;
-        missing = record { found = found; input = input; absent = absent };
-        first = earlier;
-      }
+      x = at;
+      name = name;
+      is = refl;
+      missing = record { found = found; input = input; absent = absent };
+      first = earlier;
+    }
       where
         absent : (c : ℕ) → 0 < c → c < length header → text_in header c ≡ name.text → ⊥
         absent c some within text =
@@ -159,18 +158,18 @@ module _ (names : List FlatName) (are : AreNames names) where
         → ((y : ℕ) (other : FlatName) → y < length names → slice_get names y ≡ Some other → other.input ≡ true → get_or seen y false ≡ true)
         → AreWhole names header columns
     are_whole columns seen first noted all = record {
-        long = sym first.long;
-        called = first.called;
-        are = record {
-          inputs = λ k d less. let is = first.called k (get_or columns k d) (slice_get-get_or columns k d less) in (is.0, is.1, is.2);
-          all = λ x is. let k = noted.only x (all x is.0 (slice_get_within names x is.0 is.1) is.1 is.2) in (k.0, slice_get_within columns k.0 x k.1, get_or_from_slice_get columns k.0 x x k.1);
-          once = λ i j d less within same.
+      long = sym first.long;
+      called = first.called;
+      are = record {
+        inputs = λ k d less. let is = first.called k (get_or columns k d) (slice_get-get_or columns k d less) in (is.0, is.1, is.2);
+        all = λ x is. let k = noted.only x (all x is.0 (slice_get_within names x is.0 is.1) is.1 is.2) in (k.0, slice_get_within columns k.0 x k.1, get_or_from_slice_get columns k.0 x x k.1);
+        once = λ i j d less within same.
             let a = slice_get-get_or columns i d (omega arith) in
             let b = slice_get-get_or columns j d within in
             let one = first.once i j (get_or columns i d) a (b ∙ ap (λ (x : ℕ). Some x) (sym same)) in
             omega arith;
-        };
-      }
+      };
+    }
 
 -- one name more is noted
 pub noted_one_more : (columns : List ℕ) (seen : List Bool) (x : ℕ) → AreNoted columns seen → x < length seen → AreNoted (columns ++ x ∷ []) (set seen x true)
@@ -184,18 +183,18 @@ noted_one_more columns seen x was within = record { noted = noted; only = only }
 
     noted : (k y : ℕ) → slice_get (columns ++ x ∷ []) k ≡ Some y → get_or (set seen x true) y false ≡ true
     noted k y there = elim (eqb_tells y x) [
-        | inl same ↦ marked y same.1
-        | inr apart ↦ elim (in_push columns x y k there) [
-            | inl old ↦ others y apart.1 ∙ was.noted k y old.1
-            | inr last ↦ absurd (apart.1 last.1)
-          ]
+      | inl same ↦ marked y same.1
+      | inr apart ↦ elim (in_push columns x y k there) [
+        | inl old ↦ others y apart.1 ∙ was.noted k y old.1
+        | inr last ↦ absurd (apart.1 last.1)
       ]
+    ]
 
     only : (y : ℕ) → get_or (set seen x true) y false ≡ true → (k : ℕ) × (slice_get (columns ++ x ∷ []) k ≡ Some y)
     only y is = elim (eqb_tells y x) [
-        | inl same ↦ (length columns, rw same.1 (push_last columns [] x))
-        | inr apart ↦ let k = was.only y (sym (others y apart.1) ∙ is) in (k.0, push_keeps columns (x ∷ []) y k.0 k.1)
-      ]
+      | inl same ↦ (length columns, rw same.1 (push_last columns [] x))
+      | inr apart ↦ let k = was.only y (sym (others y apart.1) ∙ is) in (k.0, push_keeps columns (x ∷ []) y k.0 k.1)
+    ]
 
 -- I2, or no memory for it
 pub missing_is : (names : List FlatName) (header : Record) (text : List ℕ) (end : TableEnd) → IsMissingFault text end → ((c : ℕ) → IsWrongColumn names header c → ⊥)
@@ -210,13 +209,13 @@ pub checked_more : (names : List FlatName) (seen : List Bool) (at : ℕ) (name :
     → ((y : ℕ) (other : FlatName) → y < at → slice_get names y ≡ Some other → other.input ≡ true → get_or seen y false ≡ true)
     → (y : ℕ) (other : FlatName) → y < at + 1 → slice_get names y ≡ Some other → other.input ≡ true → get_or seen y false ≡ true
 checked_more names seen at name less is here below y other under found input = elim (eqb_tells y at) [
-    | inl same ↦
-        let there : slice_get names at ≡ Some name = slice_get-get_or names at name less ∙ ap (λ (n : FlatName). Some n) (sym is) in
-        let again : slice_get names at ≡ Some other = subst (λ z. slice_get names z ≡ Some other) same.1 found in
-        let one : name ≡ other = cc in
-        subst (λ z. get_or seen z false ≡ true) (sym same.1) (here (ap (λ (n : FlatName). n.input) one ∙ input))
-    | inr apart ↦ below y other (omega (arith, apart.1)) found input
-  ]
+  | inl same ↦
+      let there : slice_get names at ≡ Some name = slice_get-get_or names at name less ∙ ap (λ (n : FlatName). Some n) (sym is) in
+      let again : slice_get names at ≡ Some other = subst (λ z. slice_get names z ≡ Some other) same.1 found in
+      let one : name ≡ other = cc in
+      subst (λ z. get_or seen z false ≡ true) (sym same.1) (here (ap (λ (n : FlatName). n.input) one ∙ input))
+  | inr apart ↦ below y other (omega (arith, apart.1)) found input
+]
 
 -- the element of a number
 pub name_at : (names : List FlatName) (at : ℕ) (name : FlatName) → at < length names → name ≡ get_or names at name → slice_get names at ≡ Some name

@@ -1,5 +1,5 @@
 -- The map of the inputs by their texts.
-use Rattle.std.proofs.Common.{◌≡◌, ◌∙◌, ap, sym, subst, refl, ℕ, ◌+◌, ◌<◌, ◌≤◌, ◌⊎◌, inl, inr, length, get_or, Bool, true, false, cond, List, [], ◌∷◌, Option, Some, None, slice_get, arith}
+use Rattle.std.proofs.Common.{◌≡◌, ◌∙◌, ap, sym, subst, refl, ℕ, ◌+◌, ◌<◌, ◌≤◌, inl, inr, length, get_or, Bool, true, false, cond, List, [], ◌∷◌, Option, Some, None, slice_get, arith}
 use Rattle.std.specs.Borrow.{Bor}
 use Rattle.std.specs.Str.{bytes_eq}
 use Rattle.std.proofs.lemmas.Option.{slice_get_within, slice_get-get_or}
@@ -63,18 +63,18 @@ noted_more names at text key found below is = by_key (bytes_eq text key) refl fo
     by_key : (b : Bool) → bytes_eq text key ≡ b → (found : Option ℕ) → FoundBelow names at text found → FoundBelow names (at + 1) text (cond b (Some at) found)
     by_key true same found below = subst (λ t. IsInputCalled names t at) (sym ((bytes_eq-Decides text key).0 same)) is
     by_key false other None below = λ x less called. elim (eqb_tells x at) [
-        | inl same ↦ not_here x other same.1 called
-        | inr apart ↦ below x (omega (arith, apart.1)) called
-      ]
+      | inl same ↦ not_here x other same.1 called
+      | inr apart ↦ below x (omega (arith, apart.1)) called
+    ]
     by_key false other (Some x) below = below
 
 -- a name that is no input is not noted
 pub passed_more : (names : List FlatName) (at : ℕ) (text : List ℕ) (found : Option ℕ) → FoundBelow names at text found → ((text : List ℕ) → IsInputCalled names text at → ⊥)
     → FoundBelow names (at + 1) text found
 passed_more names at text None below none = λ x less called. elim (eqb_tells x at) [
-    | inl same ↦ none text (subst (λ y. IsInputCalled names text y) same.1 called)
-    | inr apart ↦ below x (omega (arith, apart.1)) called
-  ]
+  | inl same ↦ none text (subst (λ y. IsInputCalled names text y) same.1 called)
+  | inr apart ↦ below x (omega (arith, apart.1)) called
+]
 passed_more names at text (Some x) below none = below
 
 -- at the end every input is found

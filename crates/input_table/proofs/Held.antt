@@ -1,6 +1,5 @@
 -- The rows that were read, in the lists that hold them.
-use Rattle.std.proofs.Common.{◌≡◌, ◌≢◌, ◌∙◌, ap, sym, subst, refl, ℕ, zero, suc, ◌+◌, ◌-◌, ◌*◌, ◌<◌, ◌≤◌, ◌⊎◌, inl, inr, Bool, true, false, cond, List, [], ◌∷◌, ◌++◌, length, Option, Some, None, Result, Ok, Err, slice_get, get_or, ltb, All, arith}
-use Rattle.std.proofs.lemmas.Option.{slice_get_within, slice_get-get_or, slice_get_past}
+use Rattle.std.proofs.Common.{◌≡◌, ◌∙◌, ap, sym, refl, ℕ, zero, suc, ◌+◌, ◌-◌, ◌<◌, ◌≤◌, inl, inr, true, false, cond, List, [], ◌∷◌, ◌++◌, length, Option, Some, None, slice_get, ltb, All, arith}
 use Rattle.std.proofs.lemmas.Bool.Decides.{leb_tells, nat_tests}
 use Rattle.std.proofs.lemmas.List.{length-append, append_assoc, append-nil}
 use Rattle.rational_time.specs.declared.ratio.Ratio.{Ratio}
@@ -42,18 +41,18 @@ if_so m n a b less = let on : ltb m n ≡ true = grind (arith, nat_tests) in ap 
 -- what stands above the next cell, when some of its row were taken
 pub above_is : (width : ℕ) (old taken : List Value) (k : ℕ) → length taken ≡ k → k < width → above_next width (old ++ taken) ≡ above_in width old k
 above_is width old taken k long less = elim (leb_tells width (length old + k)) [
-    | inl past ↦
-        let len : length (old ++ taken) ≡ length old + k = omega (arith, length-append old taken, long) in
-        let at : length (old ++ taken) - width ≡ length old + k - width = ap (λ n. n - width) len in
-        if_not (length (old ++ taken)) width None (slice_get (old ++ taken) (length (old ++ taken) - width)) (omega (arith, len, past.1))
-        ∙ ap (λ n. slice_get (old ++ taken) n) at
-        ∙ get_before old taken (length old + k - width) (omega (arith, past.1))
-        ∙ sym (if_not (length old + k) width None (slice_get old (length old + k - width)) past.1)
-    | inr short ↦
-        let len : length (old ++ taken) ≡ length old + k = omega (arith, length-append old taken, long) in
-        if_so (length (old ++ taken)) width None (slice_get (old ++ taken) (length (old ++ taken) - width)) (omega (arith, len, short.1))
-        ∙ sym (if_so (length old + k) width None (slice_get old (length old + k - width)) (omega (arith, short.1)))
-  ]
+  | inl past ↦
+      let len : length (old ++ taken) ≡ length old + k = omega (arith, length-append old taken, long) in
+      let at : length (old ++ taken) - width ≡ length old + k - width = ap (λ n. n - width) len in
+      if_not (length (old ++ taken)) width None (slice_get (old ++ taken) (length (old ++ taken) - width)) (omega (arith, len, past.1))
+      ∙ ap (λ n. slice_get (old ++ taken) n) at
+      ∙ get_before old taken (length old + k - width) (omega (arith, past.1))
+      ∙ sym (if_not (length old + k) width None (slice_get old (length old + k - width)) past.1)
+  | inr short ↦
+      let len : length (old ++ taken) ≡ length old + k = omega (arith, length-append old taken, long) in
+      if_so (length (old ++ taken)) width None (slice_get (old ++ taken) (length (old ++ taken) - width)) (omega (arith, len, short.1))
+      ∙ sym (if_so (length old + k) width None (slice_get old (length old + k - width)) (omega (arith, short.1)))
+]
 
 -- what stands above a cell is that of the row before
 pub above_row : (width : ℕ) (rows : List Row) (k : ℕ) → Wide width rows → k < width → above_in width (cells_of rows) k ≡ cell_of_row (last_row None rows) k
@@ -97,11 +96,11 @@ all_push P (y ∷ xs) x all here (suc k) d less = all_push P xs x (λ i e small.
 pub hold_more : (width : ℕ) (rows : List Row) (times : List Ratio) (cells taken : List Value) (t : Ratio) → Hold width rows times cells → length taken ≡ width → IsTime t
     → Hold width (rows ++ (record { time = t; cells = taken }) ∷ []) (times ++ t ∷ []) (cells ++ taken)
 hold_more width rows times cells taken t hold wide within = record {
-    times_are = ap (λ (ts : List Ratio). ts ++ t ∷ []) hold.times_are ∙ sym (times_push rows row);
-    cells_are = ap (λ (vs : List Value). vs ++ taken) hold.cells_are ∙ sym (cells_push rows row);
-    wide = all_push (λ (r : Row). length r.cells ≡ width) rows row hold.wide wide;
-    range = all_push IsTime times t hold.range within;
-  }
+  times_are = ap (λ (ts : List Ratio). ts ++ t ∷ []) hold.times_are ∙ sym (times_push rows row);
+  cells_are = ap (λ (vs : List Value). vs ++ taken) hold.cells_are ∙ sym (cells_push rows row);
+  wide = all_push (λ (r : Row). length r.cells ≡ width) rows row hold.wide wide;
+  range = all_push IsTime times t hold.range within;
+}
   where
     row : Row
     row = record { time = t; cells = taken }

@@ -1,5 +1,5 @@
 -- The table of a model without inputs.
-use Rattle.std.proofs.Common.{◌≡◌, ◌∙◌, ap, sym, subst, refl, ℕ, zero, suc, ◌+◌, ◌*◌, ◌<◌, ◌≤◌, ◌⊎◌, inl, inr, true, false, List, [], ◌∷◌, length, Some, slice_get, get_or, All, Ok, Err, arith}
+use Rattle.std.proofs.Common.{◌≡◌, ◌∙◌, ap, sym, subst, refl, ℕ, zero, suc, ◌+◌, ◌*◌, ◌<◌, ◌≤◌, inl, inr, true, false, List, [], ◌∷◌, length, Some, slice_get, get_or, All, Err, arith}
 use Rattle.std.proofs.lemmas.Bool.Decides.{eqb_tells}
 use Rattle.std.proofs.lemmas.Nat.Gcd.{IsGcd-swap, IsGcd-from_zero}
 use Rattle.std.proofs.lemmas.Option.{slice_get_within}
@@ -46,7 +46,10 @@ one_row_table model table t none times is columns cells = record {
     once = λ i j d less within. absurd (omega arith);
   });
   cells = record {
-    count = omega (arith, ap length times, ap length columns, ap length cells);
+    count =
+        let none : length table.columns ≡ 0 = ap length columns in
+        let product : length table.times * length table.columns ≡ length table.times * 0 = ap (λ n. length table.times * n) none in
+        omega (arith, ap length cells, product);
     typed = λ row k x name v column found there. absurd (no_column x k (subst (λ cs. slice_get cs k ≡ Some x) columns column));
   };
 }
@@ -65,12 +68,12 @@ first_input names x name NoMemory found input first is = tt
 -- one name more is no input
 pub none_more : (names : List FlatName) (at : ℕ) (name : FlatName) → slice_get names at ≡ Some name → name.input ≡ false → ((y : ℕ) → y < at → IsInput names y → ⊥) → (y : ℕ) → y < at + 1 → IsInput names y → ⊥
 none_more names at name found off none y less is = elim (eqb_tells y at) [
-    | inl same ↦
-        let there : slice_get names at ≡ Some is.0 = subst (λ z. slice_get names z ≡ Some is.0) same.1 is.1 in
-        let one : name ≡ is.0 = cc in
-        let bad : false ≡ true = sym off ∙ ap (λ (n : FlatName). n.input) one ∙ is.2 in cc
-    | inr apart ↦ none y (omega (arith, apart.1)) is
-  ]
+  | inl same ↦
+      let there : slice_get names at ≡ Some is.0 = subst (λ z. slice_get names z ≡ Some is.0) same.1 is.1 in
+      let one : name ≡ is.0 = cc in
+      let bad : false ≡ true = sym off ∙ ap (λ (n : FlatName). n.input) one ∙ is.2 in cc
+  | inr apart ↦ none y (omega (arith, apart.1)) is
+]
 
 pub none_at_all : (names : List FlatName) (at : ℕ) → length names ≤ at → ((y : ℕ) → y < at → IsInput names y → ⊥) → (y : ℕ) → IsInput names y → ⊥
 none_at_all names at past none y is = let less = slice_get_within names y is.0 is.1 in none y (omega (arith, less, past)) is

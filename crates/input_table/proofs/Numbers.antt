@@ -1,5 +1,5 @@
 -- What `parse` reads as an Integer is a value of the table, and the other way round.
-use Rattle.std.proofs.Common.{◌≡◌, ◌≢◌, ◌∙◌, sym, subst, ap, refl, ℕ, zero, suc, ◌+◌, ◌<◌, ◌≤◌, ◌^◌, ◌⊎◌, inl, inr, List, [], ◌∷◌, ◌++◌, length, drop, get_or, codes, ℤ, pos, neg_ℤ, Result, Ok, Err, MatchResult, MatchOption, arith, eqb, true, false, w64}
+use Rattle.std.proofs.Common.{◌≡◌, ◌≢◌, ◌∙◌, sym, subst, ap, refl, ℕ, zero, suc, ◌<◌, ◌≤◌, ◌^◌, ◌⊎◌, inl, inr, List, [], ◌∷◌, ◌++◌, length, drop, get_or, codes, ℤ, pos, neg_ℤ, Result, Ok, Err, MatchResult, arith, w64}
 use Rattle.std.specs.Str.{IsAscii, IsUtf8}
 use Rattle.std.specs.Int.{IsInRange as IsBetween}
 use Rattle.std.specs.Str.Parse.{AllDigits, digits_value, ParsesSigned}
@@ -81,19 +81,19 @@ read_minus (c ∷ cs) (Err e) a none = λ v value. by_form v (written_as (c ∷ 
 pub integer_is : {E : Type 0} (text : List ℕ) (r : Result ℤ E) → ParsesSigned w64 10 text r
     → MatchResult r (λ z. IsValue text kind.Integer (value.Int z)) (λ _. (v : Value) → IsValue text kind.Integer v → ⊥)
 integer_is text r h = elim (eqb_tells (get_or text 0 0) 43) [
-    | inl a ↦ read_plus text r a.1 (parse_signed_plus own w64 text r h a.1)
-    | inr a ↦ elim (eqb_tells (get_or text 0 0) 45) [
-        | inl b ↦ read_minus text r b.1 (parse_signed_minus own w64 text r h b.1)
-        | inr b ↦ read_plain text r a.1 b.1 (parse_signed_plain own w64 text r h a.1 b.1)
-      ]
+  | inl a ↦ read_plus text r a.1 (parse_signed_plus own w64 text r h a.1)
+  | inr a ↦ elim (eqb_tells (get_or text 0 0) 45) [
+    | inl b ↦ read_minus text r b.1 (parse_signed_minus own w64 text r h b.1)
+    | inr b ↦ read_plain text r a.1 b.1 (parse_signed_plain own w64 text r h a.1 b.1)
   ]
+]
 
 -- digits are ASCII
 digits_ascii : (digits : List ℕ) → AllDigits 10 digits → IsAscii digits
 digits_ascii digits all i = elim (leb_tells (length digits) i) [
-    | inl past ↦ let none : get_or digits i 0 ≡ 0 = get_or_past digits i 0 past.1 in omega (arith, none)
-    | inr at ↦ let d = digit_at digits i all (omega (arith, at.1)) in omega (arith, d)
-  ]
+  | inl past ↦ let none : get_or digits i 0 ≡ 0 = get_or_past digits i 0 past.1 in omega (arith, none)
+  | inr at ↦ let d = digit_at digits i all (omega (arith, at.1)) in omega (arith, d)
+]
 
 -- a text that is no UTF-8 writes no Integer
 pub no_text : (text : List ℕ) → (IsUtf8 text → ⊥) → (v : Value) → IsValue text kind.Integer v → ⊥

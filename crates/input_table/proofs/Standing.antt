@@ -1,8 +1,8 @@
 -- A reader goes on from record to record.
-use Rattle.std.proofs.Common.{◌≡◌, ◌∙◌, List, ℕ, ◌∷◌, [], ◌++◌, ◌+◌, ◌≤◌, length, Bool, true, false, Option, Some, None, inl, refl, ap, sym, arith}
+use Rattle.std.proofs.Common.{◌≡◌, ◌∙◌, List, ℕ, [], ◌+◌, ◌≤◌, length, Bool, true, false, Option, Some, None, inl, refl, ap, arith}
 use Rattle.std.specs.Borrow.{Bor}
 use Rattle.csv.specs.Machine.{Read, next_record}
-use Rattle.csv.specs.Reading.{AreRecords, Reached, Ready, default_config, source_of, pending_of, strip_bom, ReadRecord, ReadsNext, NextIs}
+use Rattle.csv.specs.Reading.{default_config, strip_bom, ReadRecord, ReadsNext, NextIs}
 use Rattle.csv.specs.Records.{fields_of}
 use Rattle.csv.specs.declared.parser.Config.{Config}
 use Rattle.csv.specs.declared.parser.State.{State}
@@ -49,4 +49,4 @@ took text rows old new row true is read first =
     (record { plain = read.3 ∙ is.plain; ready = inl first; config = read.2 ∙ is.config; left = more.0; source = more.1; reached = more.2 }, fields_few text rows old new row is read)
 took text rows old new row false is read first =
     are_all default_config rows (strip_bom text)
-        (old.state, is.left, is.reached, rows-end (λ (s : Bor (List ℕ)). Some s.now) old new (fields_of row) default_config is.left is.config is.source read)
+    (old.state, is.left, is.reached, rows-end (λ (s : Bor (List ℕ)). Some s.now) old new (fields_of row) default_config is.left is.config is.source read)

@@ -1,12 +1,12 @@
 -- Sums of an instant and the one of the row before.
-use Rattle.std.proofs.Common.{◌≡◌, ℕ, ◌+◌, ◌*◌, ◌<◌, ◌^◌, List, ◌++◌, [], ◌∷◌, codes, Option, Some, None, IfSome, IsNone, MatchOption, ◌↔◌, ◌∙◌, sym, subst, length, mul-pos, arith, refl, ap, inl, inr}
+use Rattle.std.proofs.Common.{◌≡◌, ℕ, ◌+◌, ◌*◌, ◌<◌, ◌^◌, List, ◌++◌, [], ◌∷◌, codes, Option, Some, None, IfSome, IsNone, MatchOption, ◌↔◌, ◌∙◌, sym, subst, mul-pos, arith, refl, ap}
 use Rattle.std.specs.Char.{digit_value}
 use Rattle.rational_time.specs.declared.ratio.Ratio.{Ratio}
-use Rattle.rational_time.specs.Fraction.{IsFraction, Exceeds, DoesNotFit, ArePartsBelow}
+use Rattle.rational_time.specs.Fraction.{DoesNotFit, ArePartsBelow}
 use Rattle.rational_time.specs.TimeText.{WritesTime, whole, quotient, decimal, IsNumeral}
 use Rattle.rational_time.proofs.Fractions.{IsLowest-ratio, below_limits}
 use Rattle.input_table.specs.declared.header.Form.{Form}
-use Rattle.input_table.specs.declared.header.Form.TheVariants.{Plain, Short}
+use Rattle.input_table.specs.declared.header.Form.TheVariants.{Short}
 use Rattle.input_table.specs.Fields.{IsTimeText}
 use Rattle.flat_model.specs.Tables.{IsTime}
 use Rattle.input_table.specs.Rows.{IsSum, IsInstant, written, added, base_num, base_den}

@@ -1,5 +1,5 @@
 -- The texts of a record.
-use Rattle.std.proofs.Common.{◌≡◌, ◌∙◌, ap, refl, ℕ, zero, suc, List, [], ◌∷◌, Option, Some, None, slice_index_or}
+use Rattle.std.proofs.Common.{◌≡◌, refl, ℕ, zero, suc, [], ◌∷◌, Some, None, slice_index_or}
 use Rattle.csv.specs.Records.{field_at}
 use Rattle.input_table.specs.Fields.{Field, Record, trimmed, text_in}
 

@@ -1,10 +1,9 @@
 -- A text that `rational_time` reads is a time of the table, or is not.
-use Rattle.std.proofs.Common.{◌≡◌, ◌∙◌, sym, subst, ap, ◌*◌, ◌<◌, ◌≤◌, ◌^◌, ◌↔◌, ℕ, List, Result, Ok, Err, inl, inr, arith}
-use Rattle.std.proofs.Math.Nat.{mul-le-mul_left}
+use Rattle.std.proofs.Common.{◌≡◌, sym, subst, ◌<◌, ◌^◌, ◌↔◌, ℕ, List, Result, Ok, Err, arith}
 use Rattle.rational_time.specs.declared.ratio.Ratio.{Ratio}
 use Rattle.rational_time.specs.declared.time_text.RatioFault.{RatioFault}
 use Rattle.rational_time.specs.declared.time_text.RatioFault.TheVariants.{Malformed, TooFine}
-use Rattle.rational_time.specs.Fraction.{IsFraction, Exceeds, IsLowest}
+use Rattle.rational_time.specs.Fraction.{IsFraction, Exceeds}
 use Rattle.rational_time.specs.TimeText.{WritesTime}
 use Rattle.rational_time.proofs.TimeTexts.{WritesTime-unique, WritesTime-positive}
 use Rattle.rational_time.proofs.Fractions.{IsLowest-unique, IsLowest-ratio, below_limits}

@@ -1,35 +1,31 @@
 -- The whole table: its answers, and that it is one of the model.
-use Rattle.std.proofs.Common.{◌≡◌, ◌≢◌, ◌∙◌, ap, sym, subst, refl, ℕ, zero, suc, ◌+◌, ◌*◌, ◌-◌, ◌<◌, ◌≤◌, ◌^◌, ◌⊎◌, inl, inr, true, false, List, [], ◌∷◌, ◌++◌, length, Option, Some, None, Result, Ok, Err, IfOk, MatchResult, slice_get, get_or, All, ℤ, pos, neg_ℤ, arith}
+use Rattle.std.proofs.Common.{◌≡◌, ◌∙◌, ap, sym, subst, refl, ℕ, zero, suc, ◌+◌, ◌*◌, ◌<◌, ◌≤◌, ◌^◌, inl, inr, List, [], ◌∷◌, ◌++◌, length, Option, Some, None, Result, Ok, Err, IfOk, slice_get, pos, neg_ℤ, arith}
 use Rattle.std.specs.Borrow.{Bor}
 use Rattle.std.proofs.lemmas.Option.{slice_get_within}
 use Rattle.std.proofs.lemmas.List.{length-append}
 use Rattle.std.proofs.lemmas.Bool.Decides.{nat_tests}
 use Rattle.csv.specs.declared.reader.Reader.{Reader}
 use Rattle.rational_time.specs.declared.ratio.Ratio.{Ratio}
-use Rattle.rational_time.specs.Fraction.{Below}
 use Rattle.sync_values.specs.Arithmetic.{fitted}
 use Rattle.sync_values.specs.declared.value.Value.{Value}
-use Rattle.sync_values.specs.declared.value.Value.TheVariants as value_
 use Rattle.flat_model.specs.declared.model.FlatModel.{FlatModel}
 use Rattle.flat_model.specs.declared.model.FlatName.{FlatName}
 use Rattle.flat_model.specs.declared.model.NameKind.{NameKind}
-use Rattle.flat_model.specs.declared.place.Place.{Place}
 use Rattle.flat_model.specs.declared.place.Place.TheVariants as place
 use Rattle.flat_model.specs.declared.table.Table.{Table}
 use Rattle.flat_model.specs.Assignment.{IsOfKind}
 use Rattle.flat_model.specs.Moments.{IsRising}
-use Rattle.flat_model.specs.Tables.{IsTime, IsTableOf, AreColumns, StartAtZero}
-use Rattle.input_table.specs.declared.ends.TableCode.{TableCode}
+use Rattle.flat_model.specs.Tables.{IsTableOf, AreColumns, StartAtZero}
 use Rattle.input_table.specs.declared.ends.TableCode.TheVariants.{I1, I2, I3, I5}
 use Rattle.input_table.specs.declared.ends.TableEnd.{TableEnd}
 use Rattle.input_table.specs.declared.ends.TableEnd.TheVariants.{Fault, NoMemory}
 use Rattle.input_table.specs.declared.header.Form.{Form}
 use Rattle.input_table.specs.Fields.{Record, IsValue, natural, negative, truth, falsity}
 use Rattle.input_table.specs.Headers.{BeginsAs, IsHeader}
-use Rattle.input_table.specs.Rows.{Row, IsCell, written, kept, ValueIs, IsRow, BreaksIn, AreRows, last_row, times_of, cells_of, time_of_row, cell_of_row}
-use Rattle.input_table.specs.Tables.{records_of, Answers, Breaks, BreaksAt, no_header, no_time, no_input, missing, in_row, no_row}
+use Rattle.input_table.specs.Rows.{Row, IsCell, written, kept, IsRow, AreRows, last_row, times_of, cells_of, cell_of_row}
+use Rattle.input_table.specs.Tables.{records_of, Answers, Breaks, no_header, no_time, no_input, missing, in_row, no_row}
 use Rattle.input_table.specs.private.Finding.{ColumnsAre, AreWhole}
-use Rattle.input_table.specs.private.Standing.{IsStanding, Begin, Took}
+use Rattle.input_table.specs.private.Standing.{IsStanding}
 use Rattle.input_table.specs.private.Reading.{Hold, RowAnswers, BodyAnswers, WholeAnswers, IsReading}
 use Rattle.input_table.proofs.Standing.{they_begin, they_are_few}
 use Rattle.input_table.proofs.Held.{get_behind, get_before}
@@ -41,7 +37,7 @@ pub columns_break : (names : List FlatName) (header : Record) (rest : List Recor
     → Answers names (header ∷ rest) (Err end)
 columns_break names header rest form (Fault I3 (place.Cell row column)) begins (row_is, at, column_is, wrong) =
     subst (λ r. Breaks names (header ∷ rest) I3 (place.Cell r column)) (sym row_is)
-        (subst (λ c. Breaks names (header ∷ rest) I3 (place.Cell 0 c)) (sym column_is) (no_input header rest form begins at wrong.wrong wrong.first))
+    (subst (λ c. Breaks names (header ∷ rest) I3 (place.Cell 0 c)) (sym column_is) (no_input header rest form begins at wrong.wrong wrong.first))
 columns_break names header rest form (Fault I2 (place.Name text)) begins (right, first) =
     subst (λ t. Breaks names (header ∷ rest) I2 (place.Name t)) (sym first.is) (missing header rest form begins right first.x first.name first.missing first.first)
 columns_break names header rest form (Fault code at) begins bad = absurd bad
@@ -88,13 +84,20 @@ pub row_breaks : (form : Form) (names : List FlatName) (columns : List ℕ) (tex
     → IsStanding text ((header ∷ reading.records_) ++ record_ ∷ []) new
     → RowAnswers form names columns reading.rows record_ number (Err end) times_ cells_ → BodyAnswers form names columns (records_of text) header (Err end)
 row_breaks form names columns text header record_ number times times_ cells cells_ old new (Fault code (place.Cell row column)) reading standing (row_is, breaks) =
-    let begin = they_begin text ((header ∷ reading.records_) ++ record_ ∷ []) new standing in
-    (reading.records_ ++ record_ ∷ begin.0,
-     begin.1 ∙ ap (λ (rs : List Record). header ∷ rs) (split reading.records_ begin.0),
-     inl (record {
-       front = reading.records_; broken = record_; rest = begin.0; split = refl; number = row_is ∙ reading.count;
-       rows = reading.rows; are = reading.are; breaks = breaks;
-     }))
+    let begin = they_begin text ((header ∷ reading.records_) ++ record_ ∷ []) new standing in (
+      reading.records_ ++ record_ ∷ begin.0,
+      begin.1 ∙ ap (λ (rs : List Record). header ∷ rs) (split reading.records_ begin.0),
+      inl (record {
+        front = reading.records_;
+        broken = record_;
+        rest = begin.0;
+        split = refl;
+        number = row_is ∙ reading.count;
+        rows = reading.rows;
+        are = reading.are;
+        breaks = breaks;
+      }),
+    )
   where
     split : (front rest : List Record) → (front ++ record_ ∷ []) ++ rest ≡ front ++ record_ ∷ rest
     split [] rest = refl
@@ -110,9 +113,15 @@ no_times (row ∷ rows) is = cc
 pub all_read : (form : Form) (names : List FlatName) (columns : List ℕ) (text : List ℕ) (header : Record) (number : ℕ) (times : List Ratio) (cells : List Value) (rdr : Reader (Bor (List ℕ)))
     (r : Result Table TableEnd) → (reading : IsReading form names columns text header number times cells rdr) → records_of text ≡ header ∷ reading.records_
     → WholeAnswers times columns cells r → BodyAnswers form names columns (records_of text) header r
-all_read form names columns text header number times cells rdr (Ok table) reading all (some, times_are, columns_are, cells_are) =
-    (reading.records_, reading.rows, all, some_records reading.records_ refl, reading.are, columns_are,
-     subst (λ ts. Hold (length columns) reading.rows ts table.cells) (sym times_are) (subst (λ vs. Hold (length columns) reading.rows times vs) (sym cells_are) reading.hold))
+all_read form names columns text header number times cells rdr (Ok table) reading all (some, times_are, columns_are, cells_are) = (
+  reading.records_,
+  reading.rows,
+  all,
+  some_records reading.records_ refl,
+  reading.are,
+  columns_are,
+  subst (λ ts. Hold (length columns) reading.rows ts table.cells) (sym times_are) (subst (λ vs. Hold (length columns) reading.rows times vs) (sym cells_are) reading.hold),
+)
   where
     none : length reading.records_ ≡ 0 → ⊥
     none empty =
@@ -128,7 +137,7 @@ all_read form names columns text header number times cells rdr (Ok table) readin
     some_records (r ∷ rs) is = rw (← is) (omega arith)
 all_read form names columns text header number times cells rdr (Err end) reading all (empty, end_is) =
     subst (λ e. BodyAnswers form names columns (records_of text) header (Err e)) (sym end_is)
-        (reading.records_, all, inr (none_left reading.records_ reading.rows reading.are (no_times reading.rows (sym reading.hold.times_are ∙ empty)), refl, refl, refl))
+    (reading.records_, all, inr (none_left reading.records_ reading.rows reading.are (no_times reading.rows (sym reading.hold.times_are ∙ empty)), refl, refl, refl))
   where
     none_left : (records_ : List Record) (rows : List Row) → AreRows form names columns None records_ rows → rows ≡ [] → records_ ≡ []
     none_left [] rows are is = refl
@@ -144,24 +153,28 @@ too_many form names columns text header number times cells rdr reading past =
 -- the answer of the rows is that of the table
 pub body_answers : (form : Form) (names : List FlatName) (columns : List ℕ) (all : List Record) (header : Record) (r : Result Table TableEnd) → IsHeader form names header columns
     → BodyAnswers form names columns all header r → Answers names all r
-body_answers form names columns all header (Ok table) is (records_, rows, all_is, some, are, columns_are, hold) =
-    (header, records_, all_is, record {
-      form = form;
-      header_is = subst (λ cs. IsHeader form names header cs) (sym columns_are) is;
-      some = some;
-      rows = rows;
-      are = subst (λ cs. AreRows form names cs None records_ rows) (sym columns_are) are;
-      times = hold.times_are;
-      cells = hold.cells_are;
-    })
+body_answers form names columns all header (Ok table) is (records_, rows, all_is, some, are, columns_are, hold) = (
+  header,
+  records_,
+  all_is,
+  record {
+    form = form;
+    header_is = subst (λ cs. IsHeader form names header cs) (sym columns_are) is;
+    some = some;
+    rows = rows;
+    are = subst (λ cs. AreRows form names cs None records_ rows) (sym columns_are) are;
+    times = hold.times_are;
+    cells = hold.cells_are;
+  },
+)
 body_answers form names columns all header (Err (Fault code (place.Cell row column))) is (records_, all_is, inl breaks) =
     subst (λ rs. Breaks names rs code (place.Cell row column)) (sym all_is) (in_row header records_ form columns is code row column breaks)
 body_answers form names columns all header (Err (Fault code (place.Cell row column))) is (records_, all_is, inr (none, code_is, row_is, column_is)) =
     let whole : all ≡ header ∷ [] = all_is ∙ ap (λ (rs : List Record). header ∷ rs) none in
     subst (λ rs. Breaks names rs code (place.Cell row column)) (sym whole)
-        (subst (λ k. Breaks names (header ∷ []) k (place.Cell row column)) (sym code_is)
-          (subst (λ r. Breaks names (header ∷ []) I5 (place.Cell r column)) (sym row_is)
-            (subst (λ c. Breaks names (header ∷ []) I5 (place.Cell 1 c)) (sym column_is) (no_row header form columns is))))
+    (subst (λ k. Breaks names (header ∷ []) k (place.Cell row column)) (sym code_is)
+    (subst (λ r. Breaks names (header ∷ []) I5 (place.Cell r column)) (sym row_is)
+    (subst (λ c. Breaks names (header ∷ []) I5 (place.Cell 1 c)) (sym column_is) (no_row header form columns is))))
 body_answers form names columns all header (Err (Fault code at)) is bad = absurd bad
 body_answers form names columns all header (Err NoMemory) is answers = tt
 
@@ -196,7 +209,7 @@ module _ (form : Form) (names : List FlatName) (columns : List ℕ) where
       let again : slice_get names x ≡ Some value.1 = subst (λ z. slice_get names z ≡ Some value.1) one value.3 in
       let name_is : value.1 ≡ name = cc in
       subst (λ (n : FlatName). IsOfKind n.kind v) name_is
-        (cell_kind (cell_of_row before k) value.1.kind _ v (λ w here. above k value.0 value.1 w value.2 value.3 here) value.4)
+      (cell_kind (cell_of_row before k) value.1.kind _ v (λ w here. above k value.0 value.1 w value.2 value.3 here) value.4)
 
   module _ (width : ℕ) (wide_ : length columns ≡ width) where
     cells_count : (before : Option Row) (records_ : List Record) (rows : List Row) → AreRows form names columns before records_ rows → length (cells_of rows) ≡ length (times_of rows) * width
@@ -220,7 +233,7 @@ module _ (form : Form) (names : List FlatName) (columns : List ℕ) where
     cells_typed before (r ∷ records_) (w ∷ rows) above are (suc row) k x name v column found there =
         let at : suc row * width + k ≡ length w.cells + (row * width + k) = omega (arith, are.0.wide, wide_) in
         let here : slice_get (cells_of rows) (row * width + k) ≡ Some v =
-              sym (get_behind w.cells (cells_of rows) (row * width + k)) ∙ ap (λ n. slice_get (w.cells ++ cells_of rows) n) (sym at) ∙ there in
+        sym (get_behind w.cells (cells_of rows) (row * width + k)) ∙ ap (λ n. slice_get (w.cells ++ cells_of rows) n) (sym at) ∙ there in
         cells_typed (Some w) records_ rows (row_typed before r w above are.0) are.1 row k x name v column found here
 
   rising : (before : Option Row) (records_ : List Record) (rows : List Row) → AreRows form names columns before records_ rows → IsRising (times_of rows)
@@ -251,7 +264,7 @@ body_table form model columns all header table inputs (records_, rows, all_is, s
         count = ap length hold.cells_are ∙ cells_count form names columns (length table.columns) (ap length (sym columns_are)) None records_ rows are
             ∙ ap (λ (ts : List Ratio). length ts * length table.columns) (sym hold.times_are);
         typed = λ row k x name v column found there.
-          cells_typed form names columns (length table.columns) (ap length (sym columns_are)) None records_ rows (λ k x name v column found there. cc) are row k x name v
+            cells_typed form names columns (length table.columns) (ap length (sym columns_are)) None records_ rows (λ k x name v column found there. cc) are row k x name v
             (subst (λ cs. slice_get cs k ≡ Some x) columns_are column) found (subst (λ vs. slice_get vs (row * length table.columns + k) ≡ Some v) hold.cells_are there);
       };
     }
@@ -266,14 +279,14 @@ pub no_form : (names : List FlatName) (all : List Record) (header other : Record
     → ((form : Form) → BeginsAs form other → ⊥) → end ≡ Fault I1 (place.Cell 0 1) → Answers names all (Err end)
 no_form names all header other rest end all_is same none is =
     subst (λ rs. Answers names rs (Err end)) (sym all_is)
-        (subst (λ e. Answers names (header ∷ rest) (Err e)) (sym is) (no_time header rest (λ form begins. none form (subst (λ h. BeginsAs form h) (sym same) begins))))
+    (subst (λ e. Answers names (header ∷ rest) (Err e)) (sym is) (no_time header rest (λ form begins. none form (subst (λ h. BeginsAs form h) (sym same) begins))))
 
 pub columns_fault : (names names_ : List FlatName) (all : List Record) (header first second : Record) (rest : List Record) (form : Form) (end : TableEnd) → all ≡ header ∷ rest → names_ ≡ names
     → first ≡ header → second ≡ header → BeginsAs form first → ColumnsAre names_ second (Err end) → Answers names all (Err end)
 columns_fault names names_ all header first second rest form end all_is names_is first_is second_is begins wrong =
     subst (λ rs. Answers names rs (Err end)) (sym all_is)
-        (columns_break names header rest form end (subst (λ h. BeginsAs form h) first_is begins)
-          (subst (λ ns. ColumnsAre ns header (Err end)) names_is (subst (λ h. ColumnsAre names_ h (Err end)) second_is wrong)))
+    (columns_break names header rest form end (subst (λ h. BeginsAs form h) first_is begins)
+    (subst (λ ns. ColumnsAre ns header (Err end)) names_is (subst (λ h. ColumnsAre names_ h (Err end)) second_is wrong)))
 
 pub whole_moved : (names names_ : List FlatName) (header second : Record) (columns : List ℕ) → names_ ≡ names → second ≡ header → AreWhole names_ second columns → AreWhole names header columns
 whole_moved names names_ header second columns names_is second_is whole =
@@ -283,7 +296,7 @@ pub rows_answer : (names names_ : List FlatName) (all : List Record) (header fir
     → BeginsAs form first → AreWhole names header columns → BodyAnswers form names_ columns all header r → Answers names all r
 rows_answer names names_ all header first form columns r names_is first_is begins whole answers =
     body_answers form names columns all header r (header_is form names header columns (subst (λ h. BeginsAs form h) first_is begins) whole)
-        (subst (λ ns. BodyAnswers form ns columns all header r) names_is answers)
+    (subst (λ ns. BodyAnswers form ns columns all header r) names_is answers)
 
 pub rows_table : (model : FlatModel) (names_ : List FlatName) (all : List Record) (header : Record) (form : Form) (columns : List ℕ) (r : Result Table TableEnd) → names_ ≡ model.names
     → AreWhole model.names header columns → BodyAnswers form names_ columns all header r → IfOk r (IsTableOf model)

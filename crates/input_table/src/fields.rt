@@ -64,13 +64,7 @@ fn time_of(text: &[u8]) -> Option<Ratio>
 {
     match rational_time::read(text) {
         Err(_) => None,
-        Ok(time) => {
-            if is_in_range(time) {
-                Some(time)
-            } else {
-                None
-            }
-        }
+        Ok(time) => { if is_in_range(time) { Some(time) } else { None } }
     }
 }
 
@@ -96,13 +90,7 @@ fn later_by(before: Option<Ratio>, more: Ratio) -> Option<Ratio>
 {
     match sum_of(before, more) {
         None => None,
-        Some(sum) => {
-            if is_in_range(sum) {
-                Some(sum)
-            } else {
-                None
-            }
-        }
+        Some(sum) => { if is_in_range(sum) { Some(sum) } else { None } }
     }
 }
 
@@ -179,7 +167,12 @@ fn value_of(kind: NameKind, text: &[u8]) -> Option<Value>
 }
 
 /// The value that a field stands for below another.
-pub(crate) fn cell_of(form: Form, before: Option<Value>, kind: NameKind, text: &[u8]) -> Option<Value>
+pub(crate) fn cell_of(
+    form: Form,
+    before: Option<Value>,
+    kind: NameKind,
+    text: &[u8],
+) -> Option<Value>
     ensures { MatchOption result
         ((v : Value) → IsCell form before kind text.now v → ⊥)
         (IsCell form before kind text.now) }

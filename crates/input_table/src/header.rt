@@ -56,10 +56,7 @@ fn note<'a>(
 }
 
 /// The inputs by their texts.
-fn inputs<'a>(
-    alloc: Global,
-    names: &'a [FlatName],
-) -> Result<IndexMap<&'a [u8], u32>, AllocError>
+fn inputs<'a>(alloc: Global, names: &'a [FlatName]) -> Result<IndexMap<&'a [u8], u32>, AllocError>
     requires { AreNames names.now }
     ensures { IfOk result (λ map. FindsInputs names.now map.entries) }
 {

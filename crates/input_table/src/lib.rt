@@ -4,11 +4,9 @@
 mod ends;
 mod fields;
 mod header;
-mod law;
 mod read;
 mod records;
 mod rows;
 
 pub use ends::{TableCode, TableEnd};
-pub use law::table_law;
 pub use read::{no_table, read_table};

@@ -43,7 +43,14 @@ pub fn read_table(alloc: Global, flat: &FlatModel, bytes: &[u8]) -> Result<Table
     };
     match columns_of(alloc, flat.names.as_slice(), records.row()) {
         Err(end) => Err(end),
-        Ok(columns) => read_rows(alloc, form, flat.names.as_slice(), columns, &mut records, bytes),
+        Ok(columns) => read_rows(
+            alloc,
+            form,
+            flat.names.as_slice(),
+            columns,
+            &mut records,
+            bytes,
+        ),
     }
 }
 
@@ -73,7 +80,15 @@ fn read_rows(
             Ok(true) => {}
         }
         let row = records.row();
-        if let Err(end) = read_row(form, names, columns.as_slice(), row, number, &mut times, &mut cells) {
+        if let Err(end) = read_row(
+            form,
+            names,
+            columns.as_slice(),
+            row,
+            number,
+            &mut times,
+            &mut cells,
+        ) {
             return Err(end);
         }
     }

@@ -1,5 +1,5 @@
 -- How rows are read one after the other into two lists: the times, and the cells row by row.
-use Rattle.std.specs.Prelude.{◌≡◌, ◌≢◌, ℕ, ◌+◌, ◌-◌, ◌<◌, ◌⊎◌, List, [], ◌∷◌, ◌++◌, length, min, Option, Some, None, slice_get, nat_lt, if◌then◌else◌, Result, Ok, Err, All}
+use Rattle.std.specs.Prelude.{◌≡◌, ◌≢◌, ℕ, ◌+◌, ◌-◌, ◌<◌, ◌⊎◌, List, [], ◌∷◌, ◌++◌, length, Option, Some, None, slice_get, nat_lt, if◌then◌else◌, Result, Ok, Err, All}
 use Rattle.rational_time.specs.declared.ratio.Ratio.{Ratio}
 use Rattle.rational_time.specs.Fraction.{Below}
 use Rattle.sync_values.specs.declared.value.Value.{Value}
@@ -12,7 +12,7 @@ use Rattle.input_table.specs.declared.ends.TableCode.TheVariants.{I4, I5, I6}
 use Rattle.input_table.specs.declared.ends.TableEnd.{TableEnd}
 use Rattle.input_table.specs.declared.ends.TableEnd.TheVariants.{Fault, NoMemory}
 use Rattle.input_table.specs.declared.header.Form.{Form}
-use Rattle.input_table.specs.Fields.{Record, text_in}
+use Rattle.input_table.specs.Fields.{Record}
 use Rattle.input_table.specs.Rows.{Row, IsInstant, IsInOrder, IsRow, BreaksIn, ValueIs, AreRows, last_row, times_of, cells_of}
 use Rattle.std.specs.Borrow.{Bor}
 use Rattle.csv.specs.declared.reader.Reader.{Reader}

@@ -1,4 +1,4 @@
-use Rattle.std.proofs.Common.{◌≡◌, ◌∙◌, ap, sym, rules, Option, Some, None, [], List, ℕ}
+use Rattle.std.proofs.Common.{◌≡◌, ◌∙◌, ap, sym, rules, Some, None, []}
 use Rattle.csv.specs.Records.{fields_of, field_at}
 use Rattle.input_table.specs.Fields.{without_last_blanks}
 use Rattle.input_table.proofs.Texts.{text_is, no_text}

@@ -17,5 +17,5 @@ returns c =
     let same : c.deref.result.now ≡ c.columns_seen.new.seen = c.deref.ensures.value ∙ restored c.columns_seen.new.seen c.in_ok-seen.seen.items c.in_ok-seen.seen.len long in
     let noted = subst (λ seen. AreNoted c.in_ok-columns.columns seen) (sym same) c.in_ok-columns.ensures.noted in
     missing_is c.args.names.now (fields_of c.args.header.now) c.in-Some.text.now c.missing.result c.missing.ensures
-        (all_right c.args.names.now c.requires.names (fields_of c.args.header.now) c.in_ok-columns.columns c.in_ok-columns.ensures.columns)
-        (c.in-Some.ensures (fields_of c.args.header.now) c.in_ok-columns.columns c.requires.names c.in_ok-columns.ensures.columns noted)
+    (all_right c.args.names.now c.requires.names (fields_of c.args.header.now) c.in_ok-columns.columns c.in_ok-columns.ensures.columns)
+    (c.in-Some.ensures (fields_of c.args.header.now) c.in_ok-columns.columns c.requires.names c.in_ok-columns.ensures.columns noted)

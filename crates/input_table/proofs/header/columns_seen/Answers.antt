@@ -1,9 +1,8 @@
-use Rattle.std.proofs.Common.{◌≡◌, ◌<◌, ◌∙◌, sym, refl, rules, arith, subst, length, None, Some, ap, set, ◌+◌, ◌++◌, ◌∷◌, [], true, false}
+use Rattle.std.proofs.Common.{◌≡◌, ◌<◌, ◌∙◌, sym, refl, rules, arith, subst, length, None, Some, set, ◌+◌, ◌++◌, ◌∷◌, [], true}
 use Rattle.std.proofs.lemmas.List.{length-set}
 use Rattle.std.proofs.lemmas.Option.{slice_get_within}
 use Rattle.csv.specs.Records.{fields_of}
 use Rattle.input_table.specs.Fields.{text_in}
-use Rattle.input_table.specs.Headers.{IsInputCalled}
 use Rattle.input_table.specs.private.Finding.{AreFirst, AreNoted}
 use Rattle.input_table.proofs.Columns.{is_no_input, is_repeated, first_more, noted_one_more}
 use Rattle.input_table.proofs.Found.{found_of}

@@ -1,6 +1,5 @@
-use Rattle.std.proofs.Common.{arith, ◌≡◌, ◌<◌, length, refl, sym, ◌∙◌, true, false}
+use Rattle.std.proofs.Common.{arith, sym, ◌∙◌}
 use Rattle.std.proofs.lemmas.Bool.{false≢true}
-use Rattle.std.proofs.lemmas.Option.{slice_get_within}
 use Rattle.input_table.proofs.Columns.{is_missing, are_whole, checked_more, name_at}
 use Rattle.input_table.proofs.header.first_missing.Goals as goal
 use Rattle.input_table.proofs.header.first_missing.Goals.{else-name-via-then-name+else-not-seen-at, else-name-via-else-name}
@@ -13,11 +12,11 @@ returns-then-not-seen-at c header columns are first noted =
 pub loop-at-preserved : goal.loop-at-preserved
 loop-at-preserved c =
     checked_more c.args.names.now c.args.seen.now c.loop-at.at c.index-names-at.result c.loop-at-test.true c.index-names-at.is
-        (elim c.else-name.branch [
-          | else-name-via-then-name+else-not-seen-at w ↦ λ input. w.if-not-seen-at.false
-          | else-name-via-else-name w ↦ λ input. absurd (false≢true (sym w.if-name.false ∙ input))
-        ])
-        c.loop-at.invariant
+    (elim c.else-name.branch [
+      | else-name-via-then-name+else-not-seen-at w ↦ λ input. w.if-not-seen-at.false
+      | else-name-via-else-name w ↦ λ input. absurd (false≢true (sym w.if-name.false ∙ input))
+    ])
+    c.loop-at.invariant
 
 pub returns : goal.returns
 returns c header columns are first noted =

@@ -1,7 +1,7 @@
-use Rattle.std.proofs.Common.{arith, ◌≡◌, ◌<◌, length, subst, sym, ap}
+use Rattle.std.proofs.Common.{arith, ◌<◌, length, subst, sym}
 use Rattle.input_table.specs.Headers.{IsInputCalled}
 use Rattle.input_table.specs.private.Finding.{number_of}
-use Rattle.input_table.proofs.Found.{Entries, FoundBelow, whole_found, noted_in, passed_more, input_at, no_input_at}
+use Rattle.input_table.proofs.Found.{whole_found, noted_in, passed_more, input_at, no_input_at}
 use Rattle.input_table.proofs.header.inputs.Goals as goal
 use Rattle.input_table.proofs.header.inputs.Goals.{then-name+in_ok-note, else-name}
 

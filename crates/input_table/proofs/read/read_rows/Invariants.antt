@@ -1,4 +1,4 @@
-use Rattle.std.proofs.Common.{◌≡◌, List, [], ◌∷◌, All}
+use Rattle.std.proofs.Common.{◌≡◌, [], ◌∷◌, All}
 use Rattle.flat_model.specs.Tables.{IsTime}
 use Rattle.input_table.specs.Fields.{Record}
 use Rattle.input_table.specs.private.Standing.{IsStanding}

@@ -1,4 +1,4 @@
-use Rattle.std.proofs.Common.{◌≡◌, ◌∙◌, ◌<◌, ap, sym, subst, arith, ℕ, List, [], ◌∷◌, All, length}
+use Rattle.std.proofs.Common.{◌≡◌, ◌∙◌, ap, sym, subst, arith, [], ◌∷◌, All, length}
 use Rattle.csv.specs.Records.{fields_of}
 use Rattle.csv.specs.declared.record.ByteRecord.{ByteRecord}
 use Rattle.flat_model.specs.Tables.{IsInput}
@@ -20,7 +20,7 @@ returns-in_default-clause-answers c =
     let header = fields_of c.next.new.self.row in
     let begin = they_begin text (header ∷ []) c.next.new.self.rdr took.0 in
     no_form c.args.flat.now.names (records_of text) header (fields_of c.row.result.now) begin.0 c.fault-in_default.result begin.1
-        (ap (λ (r : ByteRecord). fields_of r) c.row.ensures) c.in_default.ensures c.fault-in_default.ensures
+    (ap (λ (r : ByteRecord). fields_of r) c.row.ensures) c.in_default.ensures c.fault-in_default.ensures
 
 pub columns_of-requires-clause-short : goal.columns_of-requires-clause-short
 columns_of-requires-clause-short c =
@@ -36,7 +36,7 @@ returns-in-Err-columns_of-clause-answers c =
     let header = fields_of c.next.new.self.row in
     let begin = they_begin text (header ∷ []) c.next.new.self.rdr took.0 in
     columns_fault c.args.flat.now.names c.as_slice.result.now (records_of text) header (fields_of c.row.result.now) (fields_of c.row-2.result.now) begin.0 c.in-Some.form c.in-Err-columns_of.end
-        begin.1 c.as_slice.ensures (ap (λ (r : ByteRecord). fields_of r) c.row.ensures) (ap (λ (r : ByteRecord). fields_of r) c.row-2.ensures) c.in-Some.ensures c.in-Err-columns_of.ensures
+    begin.1 c.as_slice.ensures (ap (λ (r : ByteRecord). fields_of r) c.row.ensures) (ap (λ (r : ByteRecord). fields_of r) c.row-2.ensures) c.in-Some.ensures c.in-Err-columns_of.ensures
 
 pub read_rows-requires-clause-inputs : goal.read_rows-requires-clause-inputs
 read_rows-requires-clause-inputs c =
@@ -62,7 +62,7 @@ returns-clause-answers c =
     let header = fields_of c.next.new.self.row in
     let whole = whole_moved names c.as_slice.result.now header (fields_of c.row-2.result.now) c.in-Ok.columns c.as_slice.ensures (ap (λ (r : ByteRecord). fields_of r) c.row-2.ensures) c.in-Ok.ensures in
     rows_answer names c.as_slice-in-Ok.result.now (records_of text) header (fields_of c.row.result.now) c.in-Some.form c.in-Ok.columns c.read_rows.result c.as_slice-in-Ok.ensures
-        (ap (λ (r : ByteRecord). fields_of r) c.row.ensures) c.in-Some.ensures whole (c.read_rows.ensures header took.0)
+    (ap (λ (r : ByteRecord). fields_of r) c.row.ensures) c.in-Some.ensures whole (c.read_rows.ensures header took.0)
 
 pub returns-clause-table : goal.returns-clause-table
 returns-clause-table c =

@@ -1,4 +1,4 @@
-use Rattle.std.proofs.Common.{◌≡◌, ◌∙◌, ◌+◌, ◌++◌, ◌∷◌, ap, sym, subst, refl, arith, ℕ, List, [], Some, slice_get, get_or, length}
+use Rattle.std.proofs.Common.{◌∙◌, ◌++◌, ◌∷◌, ap, sym, subst, refl, arith, List, [], get_or, length}
 use Rattle.std.proofs.lemmas.List.{append-nil, append_assoc, length-append}
 use Rattle.std.proofs.lemmas.Option.{slice_get_within, slice_get-get_or}
 use Rattle.csv.specs.Records.{fields_of}
@@ -33,7 +33,7 @@ returns-in_default c =
     let found = name_at names x name (slice_get_within names x is.0 is.1) c.index-names-columns.is in
     let above = c.value_above-above.ensures ∙ ap (λ (vs : List Value). above_next (length columns) vs) inv.1 ∙ above_is (length columns) c.args.cells.now inv.0 k inv.2 less in
     cell_fault c.args.form names columns fields c.args.number k c.args.cells.now c.loop-column.cells inv.0 c.fault.result c.fault.ensures less inv.3 inv.2
-        (no_value c.args.form names columns fields k x name c.value_above-above.result (above_in (length columns) c.args.cells.now k) c.text_in.result.now column found above c.text_in.ensures c.in_default.ensures)
+    (no_value c.args.form names columns fields k x name c.value_above-above.result (above_in (length columns) c.args.cells.now k) c.text_in.result.now column found above c.text_in.ensures c.in_default.ensures)
 
 pub loop-column-preserved : goal.loop-column-preserved
 loop-column-preserved c =
@@ -49,9 +49,10 @@ loop-column-preserved c =
     let column = slice_get-get_or columns k 0 less in
     let found = name_at names x name (slice_get_within names x is.0 is.1) c.index-names-columns.is in
     let above = c.value_above-above.ensures ∙ ap (λ (vs : List Value). above_next (length columns) vs) inv.1 ∙ above_is (length columns) c.args.cells.now inv.0 k inv.2 less in
-    let value = is_value c.args.form names columns fields k x name c.value_above-above.result (above_in (length columns) c.args.cells.now k) c.text_in.result.now c.in-Some.value column found above c.text_in.ensures c.in-Some.ensures in
-    (inv.0 ++ c.in-Some.value ∷ [],
-     c.in_ok-push.ensures.ok ∙ ap (λ (vs : List Value). vs ++ c.in-Some.value ∷ []) inv.1 ∙ append_assoc c.args.cells.now inv.0 (c.in-Some.value ∷ []),
-     omega (arith, length-append inv.0 (c.in-Some.value ∷ []), inv.2),
-     taken_more c.args.form names columns fields c.args.cells.now inv.0 c.in-Some.value inv.3
-       (subst (λ n. ValueIs c.args.form names columns (above_in (length columns) c.args.cells.now n) fields n c.in-Some.value) (sym inv.2) value))
+    let value = is_value c.args.form names columns fields k x name c.value_above-above.result (above_in (length columns) c.args.cells.now k) c.text_in.result.now c.in-Some.value column found above c.text_in.ensures c.in-Some.ensures in (
+      inv.0 ++ c.in-Some.value ∷ [],
+      c.in_ok-push.ensures.ok ∙ ap (λ (vs : List Value). vs ++ c.in-Some.value ∷ []) inv.1 ∙ append_assoc c.args.cells.now inv.0 (c.in-Some.value ∷ []),
+      omega (arith, length-append inv.0 (c.in-Some.value ∷ []), inv.2),
+      taken_more c.args.form names columns fields c.args.cells.now inv.0 c.in-Some.value inv.3
+          (subst (λ n. ValueIs c.args.form names columns (above_in (length columns) c.args.cells.now n) fields n c.in-Some.value) (sym inv.2) value),
+    )

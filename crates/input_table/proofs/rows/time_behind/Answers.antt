@@ -1,4 +1,4 @@
-use Rattle.std.proofs.Common.{◌≡◌, ◌≤◌, ◌*◌, arith}
+use Rattle.std.proofs.Common.{arith}
 use Rattle.input_table.proofs.Cells.{not_below}
 use Rattle.input_table.proofs.rows.time_behind.Goals as goal
 

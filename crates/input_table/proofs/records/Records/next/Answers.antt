@@ -1,7 +1,3 @@
-use Rattle.std.proofs.Common.{Bor, List, ℕ, ◌≡◌, ◌∙◌, sym, refl, rules, inl, inr, true, false, Some, Bool, subst}
-use Rattle.csv.specs.Reading.{Reached, default_config, strip_bom, ReadRecord}
-use Rattle.csv.specs.Records.{fields_of}
-use Rattle.input_table.specs.private.Standing.{IsStanding, Took}
 use Rattle.input_table.proofs.Standing.{took}
 use Rattle.input_table.proofs.records.Records.next.Goals as goal
 
