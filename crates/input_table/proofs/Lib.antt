@@ -4,6 +4,8 @@ pub mod Counts
 pub mod Found
 pub mod NoTable
 pub mod Numbers
+pub mod Once
+pub mod OneRow
 pub mod Held
 pub mod Standing
 pub mod Sums

@@ -18,11 +18,11 @@ own : IsNumeralModel (AllDigits 10) (digits_value 10)
 own = numerals_by_value (AllDigits 10) tells_digits
 
 -- the first byte of digits is a digit
-first_digit : (digits : List ℕ) → 0 < length digits → AllDigits 10 digits → IsBetween 48 57 (get_or digits 0 0)
+pub first_digit : (digits : List ℕ) → 0 < length digits → AllDigits 10 digits → IsBetween 48 57 (get_or digits 0 0)
 first_digit digits some all = digit_at digits 0 all some
 
 -- a text that writes an Integer, by its first byte
-data Written (text : List ℕ) (v : Value) : Type 0 where
+pub data Written (text : List ℕ) (v : Value) : Type 0 where
   plain : 0 < length text → AllDigits 10 text → digits_value 10 text < 2 ^ 63 → v ≡ value.Int (pos (digits_value 10 text)) → Written text v
   plus : (digits : List ℕ) → text ≡ 43 ∷ digits → 0 < length digits → AllDigits 10 digits → digits_value 10 digits < 2 ^ 63 → v ≡ value.Int (pos (digits_value 10 digits)) → Written text v
   minus : (digits : List ℕ) → text ≡ 45 ∷ digits → 0 < length digits → AllDigits 10 digits → digits_value 10 digits ≤ 2 ^ 63 → v ≡ value.Int (neg_ℤ (pos (digits_value 10 digits))) → Written text v
@@ -33,7 +33,7 @@ written_by_sign text sign digits is (inl none) some all small =
     subst (λ t. Written t (value.Int (pos (digits_value 10 digits)))) (sym same) (plain some all small refl)
 written_by_sign text sign digits is (inr mark) some all small = plus digits (is ∙ ap (λ s. s ++ digits) mark) some all small refl
 
-written_as : (text : List ℕ) (k : NameKind) (v : Value) → k ≡ kind.Integer → IsValue text k v → Written text v
+pub written_as : (text : List ℕ) (k : NameKind) (v : Value) → k ≡ kind.Integer → IsValue text k v → Written text v
 written_as text k v is (natural sign digits split mark some all small) = written_by_sign text sign digits split mark some all small
 written_as text k v is (negative digits split some all small) = minus digits split some all small refl
 written_as text k v is (truth w) = cc

@@ -4,9 +4,11 @@
 mod ends;
 mod fields;
 mod header;
+mod law;
 mod read;
 mod records;
 mod rows;
 
 pub use ends::{TableCode, TableEnd};
+pub use law::table_law;
 pub use read::{no_table, read_table};
