@@ -1,8 +1,6 @@
 -- A file stands for one table, or breaks one first rule.
-use Rattle.std.proofs.Common.{◌≡◌, ◌≢◌, ◌∙◌, ap, ap₂, sym, subst, refl, ℕ, zero, suc, ◌+◌, ◌-◌, ◌<◌, ◌≤◌, ◌⊎◌, inl, inr, true, false, List, [], ◌∷◌, ◌++◌, length, codes, Option, Some, None, Result, Ok, Err, slice_get, get_or, arith}
+use Rattle.std.proofs.Common.{◌≡◌, ◌∙◌, ap, ap₂, sym, subst, refl, ℕ, suc, ◌+◌, ◌<◌, ◌⊎◌, inl, inr, List, [], ◌∷◌, ◌++◌, length, Option, Some, None, Result, Ok, Err, slice_get, arith}
 use Rattle.std.proofs.lemmas.Option.{slice_get_within, slice_get-get_or, get_or_from_slice_get}
-use Rattle.rational_time.specs.declared.ratio.Ratio.{Ratio}
-use Rattle.sync_values.specs.declared.value.Value.{Value}
 use Rattle.flat_model.specs.declared.model.FlatName.{FlatName}
 use Rattle.flat_model.specs.declared.place.Place.{Place}
 use Rattle.flat_model.specs.declared.place.Place.TheVariants as place
@@ -15,11 +13,11 @@ use Rattle.input_table.specs.declared.ends.TableEnd.TheVariants.{Fault, NoMemory
 use Rattle.input_table.specs.declared.header.Form.{Form}
 use Rattle.input_table.specs.declared.header.Form.TheVariants.{Plain, Short}
 use Rattle.input_table.specs.Fields.{Record, text_in}
-use Rattle.input_table.specs.Headers.{BeginsAs, IsHeader, IsInputCalled, IsWrongColumn, IsMissing}
+use Rattle.input_table.specs.Headers.{BeginsAs, IsHeader, IsWrongColumn, IsMissing}
 use Rattle.input_table.specs.Laws.{TableLaw}
 use Rattle.input_table.specs.Rows.{Row, IsRow, BreaksIn, AreRows, last_row, times_of, cells_of}
-use Rattle.input_table.specs.Tables.{Answers, IsTableOfRecords, Breaks, BreaksAt, no_header, no_time, no_input, missing, in_row, no_row}
-use Rattle.input_table.specs.private.Finding.{AreFirst, IsFirstWrong, IsFirstMissing}
+use Rattle.input_table.specs.Tables.{Answers, Breaks, BreaksAt, no_header, no_time, no_input, missing, in_row, no_row}
+use Rattle.input_table.specs.private.Finding.{AreFirst, IsFirstWrong}
 use Rattle.input_table.proofs.Columns.{same_input, all_right}
 use Rattle.input_table.proofs.OneRow.{row_once, row_or_break, break_once, list_ext}
 
