@@ -1,5 +1,0 @@
-//! Tests of the meaning of a model.
-#![tactic(auto)]
-
-#[cfg(test)]
-mod tables;
