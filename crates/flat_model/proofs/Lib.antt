@@ -1,6 +1,7 @@
 pub mod Above
 pub mod Agreement
 pub mod Asks
+pub mod Conditions
 pub mod Dependence
 pub mod Evaluations
 pub mod GivenValues
@@ -10,11 +11,14 @@ pub mod InstantsOnce
 pub mod Levels
 pub mod Links
 pub mod Nodes
+pub mod OneAnswer
 pub mod OneSolution
 pub mod Ratios
 pub mod Sites
 pub mod Standings
 pub mod Ticks
+pub mod Totals
 pub mod Typed
 pub mod Values
+pub mod WholeTypes
 pub mod Wholes

@@ -68,7 +68,7 @@ fn interval_times<V: Lookup>(values: &V, k: u32) -> Result<Value, Fail>
 }
 
 /// Whether the value of a chain so far is also its value with the next part.
-fn is_enough(op: ChainOp, total: Value) -> bool
+pub(crate) fn is_enough(op: ChainOp, total: Value) -> bool
     ensures { result ≡ has_enough op total }
 {
     match (op, total) {

@@ -1,5 +1,5 @@
 //! A text in memory.
-ghost use Rattle.std.specs.Prelude.{◌≡◌, ◌<◌, ◌≤◌, Some, length, IfOk};
+ghost use Rattle.std.specs.Prelude.{◌≡◌, ◌≢◌, ◌<◌, ◌≤◌, Some, length, IfOk};
 ghost use Rattle.outside_io.specs.Counts.{Rose};
 ghost use Rattle.outside_io.specs.Puts.{Takes};
 ghost use Rattle.outside_io.specs.TextInMemory.{after_put, new_sink, put_answer};
@@ -84,6 +84,7 @@ impl Sink for MemSink {
         // As each sink does.
         ensures takes { Takes piece.now (Some self.old.text) (Some self.new.text) result }
         ensures failed { result ≡ Put.Failed → Rose self.old.faults self.new.faults }
+        ensures quiet { result ≢ Put.Failed → self.new.faults ≡ self.old.faults }
         ensures counts { self.old.faults ≤ self.new.faults }
     {
         self.puts = self.puts.saturating_add(1);

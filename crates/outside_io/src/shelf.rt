@@ -1,5 +1,5 @@
 //! Files that are read part by part.
-ghost use Rattle.std.specs.Prelude.{◌≡◌, ◌<◌, ◌≤◌, Bool, List, Option, ℕ, length};
+ghost use Rattle.std.specs.Prelude.{◌≡◌, ◌≢◌, ◌<◌, ◌≤◌, Bool, List, Option, ℕ, length};
 ghost use Rattle.outside_io.specs.Counts.{Rose};
 ghost use Rattle.outside_io.specs.Files.{Files, told};
 ghost use Rattle.outside_io.specs.Reads.{Gives};
@@ -28,12 +28,14 @@ pub trait Shelf {
 
     /// Reads bytes of a file from the byte `at` on, counted from 0, into the front of a buffer.
     /// A read of a name that is not held is a fault, unless such names are read as empty files.
+    /// A read that does not fail leaves the counts.
     fn read(&mut self, name: &str, at: u64, into: &mut [u8]) -> Read
         requires { 0 < length into.old }
         ensures gives { let file = told (held self.old) (gives_empty self.old) name.now in
             Gives file at into.new result }
         ensures failed { result ≡ Read.Failed →
             Rose (faults self.old name.now) (faults self.new name.now) }
+        ensures quiet { result ≢ Read.Failed → (other : List ℕ) → faults self.new other ≡ faults self.old other }
         ensures counts { (other : List ℕ) → faults self.old other ≤ faults self.new other }
         ensures holds { held self.new ≡ held self.old }
         ensures flag { gives_empty self.new ≡ gives_empty self.old };

@@ -1,6 +1,6 @@
 //! The files, the standard output and the standard error of the machine. What they give and receive
 //! is not told, and no more is known of it than the counts that the machine reports.
-ghost use Rattle.std.specs.Prelude.{◌≡◌, ◌<◌, ◌≤◌, None, false, List, ℕ, length, IfOk};
+ghost use Rattle.std.specs.Prelude.{◌≡◌, ◌≢◌, ◌<◌, ◌≤◌, None, false, List, ℕ, length, IfOk};
 ghost use Rattle.outside_io.specs.Counts.{Rose};
 ghost use Rattle.outside_io.specs.Files.{Untold};
 ghost use Rattle.outside_io.specs.Puts.{Takes, faults_after_put};
@@ -50,6 +50,7 @@ impl<'a, R: Files> Shelf for FileShelf<'a, R> {
         // As each shelf does.
         ensures gives { Gives Untold at into.new result }
         ensures failed { result ≡ Read.Failed → Rose self.old self.new }
+        ensures quiet { result ≢ Read.Failed → (other : List ℕ) → self.new ≡ self.old }
         ensures counts { (other : List ℕ) → self.old ≤ self.new }
     {
         match read_at(self.rt, name, at, into) {
@@ -106,6 +107,7 @@ impl<W: Write + Drop> Sink for OutSink<W> {
         // As each sink does.
         ensures takes { Takes piece.now None None result }
         ensures failed { result ≡ Put.Failed → Rose self.old self.new }
+        ensures quiet { result ≢ Put.Failed → self.new ≡ self.old }
         ensures counts { self.old ≤ self.new }
     {
         write_some(&mut self.inner, piece, &mut self.faults)
@@ -146,6 +148,7 @@ impl<W: Write + Drop> Sink for ErrSink<W> {
         // As each sink does.
         ensures takes { Takes piece.now None None result }
         ensures failed { result ≡ Put.Failed → Rose self.old self.new }
+        ensures quiet { result ≢ Put.Failed → self.new ≡ self.old }
         ensures counts { self.old ≤ self.new }
     {
         write_some(&mut self.inner, piece, &mut self.faults)

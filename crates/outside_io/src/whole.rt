@@ -1,5 +1,5 @@
 //! Files that are read whole.
-ghost use Rattle.std.specs.Prelude.{◌≡◌, ◌<◌, ◌≤◌, ◌^◌, List, ℕ, length, IfOk};
+ghost use Rattle.std.specs.Prelude.{◌≡◌, ◌≢◌, ◌<◌, ◌≤◌, ◌^◌, List, ℕ, length, IfOk};
 ghost use Rattle.outside_io.specs.Counts.{Rose};
 ghost use Rattle.outside_io.specs.Files.{told, IsLonger, IsWhole};
 ghost use Rattle.outside_io.specs.declared.whole.ReadEnd.TheVariants.{NoMemory};
@@ -29,7 +29,7 @@ impl From<AllocError> for ReadEnd {
     }
 }
 
-/// Reads a file of at most `limit` bytes whole. The first read that fails ends it.
+/// Reads a file of at most `limit` bytes whole. The first read that fails ends it, so any other end leaves the counts.
 pub fn read_whole<S: Shelf>(
     alloc: Global,
     shelf: &mut S,
@@ -44,6 +44,8 @@ pub fn read_whole<S: Shelf>(
         result ≡ Err ReadEnd.TooLong → IsLonger file limit }
     ensures failed { result ≡ Err ReadEnd.Failed →
         Rose (S.faults shelf.old name.now) (S.faults shelf.new name.now) }
+    ensures quiet { result ≢ Err ReadEnd.Failed →
+        (other : List ℕ) → S.faults shelf.new other ≡ S.faults shelf.old other }
     ensures counts { (other : List ℕ) → S.faults shelf.old other ≤ S.faults shelf.new other }
     ensures holds { S.held shelf.new ≡ S.held shelf.old }
     ensures flag { S.gives_empty shelf.new ≡ S.gives_empty shelf.old }

@@ -15,5 +15,6 @@ loop-done-preserved g c =
       within = omega (arith, took.1, length-drop i p);
       text = took.2 ∙ ap (grown (take n (drop i p))) c.loop-done.invariant.text ∙ grown-take p i n (g.O.Sink.text c.args.sink.now);
       counts = omega (arith, c.in-Taken.ensures.counts, c.loop-done.invariant.counts);
+      quiet = c.in-Taken.ensures.quiet (λ failed. cc failed) ∙ c.loop-done.invariant.quiet;
       untouched = λ none. absurd (omega (arith, took.0, none));
     }

@@ -7,6 +7,7 @@ invariant-loop-done g l = record {
   within : l.done ≤ length l.piece;
   text : g.O.Sink.text l.sink ≡ grown (take l.done l.piece) (g.O.Sink.text l.initial.sink);
   counts : g.O.Sink.faults l.initial.sink ≤ g.O.Sink.faults l.sink;
+  quiet : g.O.Sink.faults l.sink ≡ g.O.Sink.faults l.initial.sink;
   untouched : l.done ≡ 0 → l.sink ≡ l.initial.sink;
 }
 

@@ -9,6 +9,7 @@ loop-part-preserved g c =
     record {
       front = rw c.in_ok-extend_from_slice-in-Bytes.ensures.items (front_more _ c.loop-part.bytes.items c.read.new.into c.in-Bytes.count given.1 c.loop-part.invariant.front given.2);
       counts = λ other. omega (arith, c.loop-part.invariant.counts other, c.read.ensures.counts other);
+      quiet = λ other. c.read.ensures.quiet (λ failed. cc failed) other ∙ c.loop-part.invariant.quiet other;
       holds = c.read.ensures.holds ∙ c.loop-part.invariant.holds;
       flag = c.read.ensures.flag ∙ c.loop-part.invariant.flag;
     }

@@ -7,6 +7,7 @@ abbrev pub invariant-loop-part : goal.invariant-loop-part
 invariant-loop-part g l = record {
   front : IsFront (told (g.S.Shelf.held l.initial.shelf) (g.S.Shelf.gives_empty l.initial.shelf) l.name) l.bytes.items;
   counts : (other : List ℕ) → g.S.Shelf.faults l.initial.shelf other ≤ g.S.Shelf.faults l.shelf other;
+  quiet : (other : List ℕ) → g.S.Shelf.faults l.shelf other ≡ g.S.Shelf.faults l.initial.shelf other;
   holds : g.S.Shelf.held l.shelf ≡ g.S.Shelf.held l.initial.shelf;
   flag : g.S.Shelf.gives_empty l.shelf ≡ g.S.Shelf.gives_empty l.initial.shelf;
 }

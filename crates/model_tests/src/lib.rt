@@ -1,0 +1,5 @@
+//! Tests of the meaning of a model.
+#![tactic(auto)]
+
+#[cfg(test)]
+mod expressions;

@@ -1,0 +1,13 @@
+pub mod Axis
+pub mod Course
+pub mod Fraction
+pub mod Grid
+pub mod Leaves
+pub mod Laws
+pub mod Left
+pub mod Making
+pub mod NewPlan
+pub mod NextTick
+pub mod Plans
+pub mod Seen
+pub mod SeenFractions
