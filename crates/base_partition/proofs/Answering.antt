@@ -1,18 +1,17 @@
 -- What the tests for mixed classes and base partitions say of the model.
-use Rattle.std.proofs.Common.{◌≡◌, refl, ap, subst, sym, ◌∙◌, ℕ, zero, suc, ◌+◌, ◌<◌, ◌==◌, Bool, true, false, ◌&&◌, List, [], ◌∷◌, length, slice_index_or, slice_get, Some, None, Option, Contains, arith}
-use Rattle.std.specs.List.{filter}
+use Rattle.std.proofs.Common.{◌≡◌, refl, subst, sym, ℕ, zero, suc, ◌<◌, ◌==◌, Bool, true, false, ◌&&◌, List, [], ◌∷◌, length, slice_get, Some, None, Contains, arith}
 use Rattle.std.proofs.lemmas.Bool.Decides.{nat_tests}
 use Rattle.std.proofs.lemmas.List.Elements.{All-contains, filter_passes}
 use Rattle.flat_model.specs.declared.model.FlatModel.{FlatModel}
 use Rattle.flat_model.specs.declared.place.Place.{Place}
 use Rattle.clock_terms.specs.declared.data.Classes.{Classes}
 use Rattle.clock_terms.specs.declared.data.Constructor.{Constructor}
-use Rattle.clock_terms.specs.Classing.{AreClassesOf, HasMark, class_in, is_clocked, partition_in}
+use Rattle.clock_terms.specs.Classing.{HasMark, class_in, is_clocked, partition_in}
 use Rattle.clock_terms.specs.Listed.{constructors_of}
 use Rattle.clock_terms.specs.Said.{IsMarkedClocked}
 use Rattle.clock_terms.proofs.Marking.{get_below}
 use Rattle.base_partition.specs.declared.group.Grouped.{Grouped}
-use Rattle.base_partition.specs.Classified.{IsMixed, NoneMixed, IsMixedAt, is_source, stands_in, sources_in, IsSecondOf, NoneBaseMixed, IsBaseMixedAt, AreApart}
+use Rattle.base_partition.specs.Classified.{IsMixed, NoneMixed, IsMixedAt, is_source, stands_in, sources_in, IsSecondOf, IsBaseMixedAt, AreApart}
 use Rattle.base_partition.specs.working.Grouped.{IsGrouped}
 use Rattle.base_partition.specs.working.Marks.{IsBoth}
 use Rattle.base_partition.specs.working.Sources.{IsFirstMixed}

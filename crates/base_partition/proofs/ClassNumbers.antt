@@ -1,9 +1,9 @@
 -- The firsts of joined numbers are such as number classes.
-use Rattle.std.proofs.Common.{◌≡◌, refl, ap, subst, sym, ◌∙◌, ℕ, zero, suc, ◌+◌, ◌<◌, ◌≤◌, ◌⊎◌, inl, inr, ⊎_elim, Bool, true, false, List, [], ◌∷◌, length, slice_index_or, slice_get, Some, get_or, Contains, arith}
+use Rattle.std.proofs.Common.{◌≡◌, refl, sym, ◌∙◌, ℕ, zero, suc, ◌+◌, ◌<◌, ◌≤◌, ◌⊎◌, inl, inr, ⊎_elim, Bool, true, false, List, [], ◌∷◌, length, slice_index_or, get_or, arith}
 use Rattle.std.proofs.lemmas.List.{get_or_default}
 use Rattle.std.proofs.lemmas.List.Elements.{Contains-get_or}
 use Rattle.mo_connect.specs.declared.Pair.{Pair}
-use Rattle.mo_connect.specs.Chain.{Chain, AreJoined, IsPair, stay}
+use Rattle.mo_connect.specs.Chain.{AreJoined, IsPair, stay}
 use Rattle.mo_connect.proofs.Chains.{follow}
 use Rattle.base_partition.specs.working.First.{IsFirst}
 use Rattle.base_partition.specs.working.Numbered.{is_member, first_of, HasFirsts, AreNumbers, AreClassNumbers, AreTogether}

@@ -1,29 +1,26 @@
 -- What the numbers, marks and pairs of terms make are the classes and base partitions of the model.
-use Rattle.std.proofs.Common.{◌≡◌, refl, ap, ap₂, subst, sym, ◌∙◌, ℕ, zero, suc, ◌+◌, ◌<◌, ◌≤◌, ◌⊎◌, ◌↔◌, inl, inr, ⊎_elim, Bool, true, false, not, if◌then◌else◌, List, [], ◌∷◌, ◌++◌, length, map, flat_map, replicate, slice_index_or, slice_get, Some, get_or, Contains, All, arith}
+use Rattle.std.proofs.Common.{◌≡◌, refl, ap, subst, sym, ◌∙◌, ℕ, zero, suc, ◌+◌, ◌<◌, ◌⊎◌, ◌↔◌, inl, inr, ⊎_elim, Bool, true, false, not, if◌then◌else◌, List, [], ◌∷◌, length, replicate, slice_index_or, slice_get, Some, get_or, Contains, All, arith}
 use Rattle.std.proofs.lemmas.Bool.{not-true, cases_Bool}
 use Rattle.std.proofs.lemmas.List.{length-replicate}
 use Rattle.std.proofs.lemmas.List.Elements.{Contains-get_or}
-use Rattle.flat_model.specs.declared.clock.Conversion.{Conversion}
 use Rattle.flat_model.specs.declared.model.FlatModel.{FlatModel}
 use Rattle.flat_model.specs.declared.model.FlatName.{FlatName}
 use Rattle.flat_model.specs.declared.place.Place.{Place}
 use Rattle.mo_connect.specs.declared.Pair.{Pair}
 use Rattle.mo_connect.specs.Chain.{Chain, AreJoined, AreBelow, IsPair, stay, forward, backward}
 use Rattle.mo_connect.proofs.Chains.{refined}
-use Rattle.clock_terms.specs.declared.data.Classes.{Classes}
 use Rattle.clock_terms.specs.declared.data.Terms.{Terms}
 use Rattle.clock_terms.specs.Mentions.{Mention, Stands, Ticks, Samples, Holds, Converts, Gives}
-use Rattle.clock_terms.specs.Nodes.{Node, nodes_of, entry}
-use Rattle.clock_terms.specs.Said.{IsNode, numbered, IsNamed, IsJoined, AreOfOneClass, NeedsClock, TakesLast, IsMarkedClocked, IsMarkedUnclocked, IsConversionOf, IsConverted, AreTermsOf}
+use Rattle.clock_terms.specs.Nodes.{Node, nodes_of}
+use Rattle.clock_terms.specs.Said.{IsNode, numbered, IsJoined, AreOfOneClass, NeedsClock, TakesLast, IsMarkedClocked, IsConversionOf, AreTermsOf}
 use Rattle.clock_terms.specs.Classing.{IsMember, AreNumbered, AreConverted, HasMark, AreClassesOf}
 use Rattle.clock_terms.proofs.Joining.{in_one, in_none, here, from_flat, to_flat}
 use Rattle.clock_terms.proofs.Marking.{get_below}
 use Rattle.base_partition.specs.working.Members.{members_of}
 use Rattle.base_partition.specs.working.Numbered.{is_member, AreClassNumbers, AreTogether}
-use Rattle.base_partition.specs.working.Marks.{HasOne, HasMarks, HasClasses}
+use Rattle.base_partition.specs.working.Marks.{HasMarks, HasClasses}
 use Rattle.base_partition.specs.working.Pairs.{class_pair, class_pairs}
 use Rattle.base_partition.specs.working.Placed.{ArePlaces}
-use Rattle.base_partition.proofs.ClassNumbers.{set_inside}
 use Rattle.base_partition.proofs.FirstPlaces.{count_map}
 
 -- ---- members

@@ -1,7 +1,6 @@
 -- The places of classes, by their first members.
-use Rattle.std.proofs.Common.{◌≡◌, refl, ap, subst, sym, ◌∙◌, ℕ, zero, suc, ◌+◌, ◌-◌, ◌<◌, ◌≤◌, inl, inr, List, [], ◌∷◌, ◌++◌, length, map, slice_get, slice_index_or, get_or, take, Some, None, Option, Contains, arith, ⊎_elim, ◌⊎◌}
-use Rattle.std.proofs.lemmas.List.{take_more, length-append}
-use Rattle.std.proofs.lemmas.Bool.{cases_eq}
+use Rattle.std.proofs.Common.{◌≡◌, refl, ap, subst, ◌∙◌, ℕ, zero, suc, ◌+◌, ◌-◌, ◌<◌, ◌≤◌, inl, inr, List, [], ◌∷◌, ◌++◌, length, map, slice_get, get_or, Some, None, arith, ⊎_elim, ◌⊎◌}
+use Rattle.std.proofs.lemmas.List.{length-append}
 use Rattle.flat_model.specs.declared.model.FlatModel.{FlatModel}
 use Rattle.flat_model.specs.declared.place.Place.{Place}
 use Rattle.flat_model.specs.declared.place.Place.TheVariants as place

@@ -1,13 +1,12 @@
 -- The least number that a base partition has, with one base partition more, and what it says of the model.
-use Rattle.std.proofs.Common.{◌≡◌, refl, ap, subst, sym, ◌∙◌, ℕ, zero, suc, ◌+◌, ◌<◌, ◌≤◌, inl, inr, ⊎_elim, ◌⊎◌, Bool, true, false, if◌then◌else◌, nat_lt, List, [], ◌∷◌, ◌++◌, length, slice_index_or, get_or, Some, None, Option, arith}
+use Rattle.std.proofs.Common.{◌≡◌, refl, ap, sym, ◌∙◌, ℕ, ◌+◌, ◌<◌, ◌≤◌, inl, inr, ⊎_elim, ◌⊎◌, Bool, true, false, if◌then◌else◌, nat_lt, List, [], ◌∷◌, ◌++◌, length, slice_index_or, Some, None, Option, arith}
 use Rattle.std.proofs.lemmas.List.{length-append, get_or_push, get_or_append_left}
-use Rattle.std.proofs.lemmas.Bool.{cases_eq, cases_Bool}
+use Rattle.std.proofs.lemmas.Bool.{cases_eq}
 use Rattle.std.proofs.lemmas.Bool.Decides.{nat_tests}
 use Rattle.clock_terms.specs.declared.data.Classes.{Classes}
 use Rattle.clock_terms.specs.declared.data.Constructor.{Constructor}
 use Rattle.base_partition.specs.declared.source.Sources.{Sources}
-use Rattle.base_partition.specs.Classified.{sources_in, IsSecondOf}
-use Rattle.base_partition.specs.working.Sources.{no_sources, summary, AreKept, mixed_in, lesser_of, IsLeastOf, IsFirstMixed}
+use Rattle.base_partition.specs.working.Sources.{no_sources, AreKept, mixed_in, lesser_of, IsLeastOf, IsFirstMixed}
 use Rattle.base_partition.proofs.Summing.{second_mixed, mixed_second}
 
 module _ (bases : List Sources) (b : Sources) where

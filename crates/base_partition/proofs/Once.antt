@@ -1,8 +1,8 @@
 -- A model has one answer.
-use Rattle.std.proofs.Common.{◌≡◌, ◌≢◌, refl, ap, ap₂, subst, sym, ◌∙◌, ℕ, zero, suc, ◌+◌, ◌-◌, ◌<◌, ◌≤◌, ◌⊎◌, ◌↔◌, inl, inr, ⊎_elim, Bool, true, false, List, [], ◌∷◌, length, slice_index_or, slice_get, get_or, Some, None, Option, Result, Ok, Err, Contains, arith}
-use Rattle.std.proofs.lemmas.Bool.{cases_eq, cases_order, cases_Bool}
+use Rattle.std.proofs.Common.{◌≡◌, ◌≢◌, refl, ap, ap₂, subst, sym, ◌∙◌, ℕ, zero, suc, ◌-◌, ◌<◌, ◌≤◌, ◌⊎◌, inl, inr, ⊎_elim, Bool, true, false, List, [], ◌∷◌, length, slice_index_or, slice_get, get_or, Some, None, Option, Result, Ok, Err, Contains, arith}
+use Rattle.std.proofs.lemmas.Bool.{cases_order, cases_Bool}
 use Rattle.std.proofs.lemmas.List.{ext_get_or, get_or_default}
-use Rattle.std.proofs.lemmas.List.Elements.{Contains-get_or, All-contains}
+use Rattle.std.proofs.lemmas.List.Elements.{All-contains}
 use Rattle.std.proofs.lemmas.List.Kept.{AllPairs-from_increasing}
 use Rattle.flat_model.specs.declared.model.FlatModel.{FlatModel}
 use Rattle.flat_model.specs.declared.model.FlatName.{FlatName}
@@ -12,15 +12,15 @@ use Rattle.mo_connect.specs.Chain.{Chain}
 use Rattle.mo_connect.proofs.Chains.{follow, reversed}
 use Rattle.mo_connect.proofs.Unique.{same_from_elements}
 use Rattle.clock_terms.specs.declared.data.Classes.{Classes}
-use Rattle.clock_terms.specs.Nodes.{Node, nodes_of}
-use Rattle.clock_terms.specs.Said.{IsNode, numbered, IsNamed, IsJoined, AreOfOneClass, IsMarkedClocked, IsMarkedUnclocked}
+use Rattle.clock_terms.specs.Nodes.{nodes_of}
+use Rattle.clock_terms.specs.Said.{numbered, IsJoined, IsMarkedClocked}
 use Rattle.clock_terms.specs.Classing.{IsMember, AreNumbered, IsPlaceOf, AreConverted, HasMark, AreClassesOf, class_in, is_clocked, partition_in}
 use Rattle.clock_terms.specs.Least.{IsLeast}
 use Rattle.clock_terms.proofs.Marking.{get_below}
 use Rattle.base_partition.specs.declared.kinds.ClassEnd.{ClassEnd}
 use Rattle.base_partition.specs.declared.kinds.ClassEnd.TheVariants as end
-use Rattle.base_partition.specs.Classified.{IsMixed, NoneMixed, IsBaseMixed, NoneBaseMixed, AreApart, IsMixedAt, IsBaseMixedAt, Classifies}
-use Rattle.base_partition.proofs.ClassNumbers.{past, inside_or_past}
+use Rattle.base_partition.specs.Classified.{IsMixed, IsBaseMixed, Classifies}
+use Rattle.base_partition.proofs.ClassNumbers.{inside_or_past}
 
 -- ---- numbers of classes
 

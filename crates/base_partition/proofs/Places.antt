@@ -1,5 +1,5 @@
 -- One number more.
-use Rattle.std.proofs.Common.{Result, Ok, Err, OnOk, ◌≡◌, refl, ap, subst, sym, ◌∙◌, ℕ, zero, suc, ◌+◌, ◌<◌, ◌≤◌, ◌⊎◌, inl, inr, ⊎_elim, Bool, true, false, List, [], ◌∷◌, ◌++◌, length, get_or, slice_index_or, slice_get, Some, Contains, arith}
+use Rattle.std.proofs.Common.{Result, Ok, Err, OnOk, ◌≡◌, refl, ap, subst, sym, ◌∙◌, ℕ, zero, suc, ◌+◌, ◌<◌, inl, inr, ⊎_elim, Bool, true, false, List, [], ◌∷◌, ◌++◌, length, get_or, slice_index_or, slice_get, Some, arith}
 use Rattle.std.proofs.lemmas.List.{length-append, get_or_push, get_or_default}
 use Rattle.std.proofs.lemmas.List.Elements.{Contains-push_cases}
 use Rattle.std.proofs.lemmas.Bool.{cases_eq}

@@ -1,5 +1,5 @@
 -- What `classes` answers: the classes of a model, or the first rule of classes that the model breaks. MLS 3.6, chapter 16, "Base-Clock Partitioning", in this project's profile; the order of the rules is this project's own.
-use Rattle.std.specs.Prelude.{◌≡◌, ℕ, ◌==◌, Bool, true, false, ◌&&◌, List, Option, Some, None, Result, Ok, Err, slice_get}
+use Rattle.std.specs.Prelude.{◌≡◌, ℕ, ◌==◌, Bool, true, false, ◌&&◌, List, Some, Result, Ok, Err, slice_get}
 use Rattle.std.specs.List.{list_any, filter}
 use Rattle.flat_model.specs.declared.model.FlatModel.{FlatModel}
 use Rattle.flat_model.specs.declared.place.Place.{Place}

@@ -1,5 +1,5 @@
 -- Marks of classes.
-use Rattle.std.specs.Prelude.{◌≡◌, ℕ, ◌<◌, ◌⊎◌, ◌↔◌, Bool, true, false, if◌then◌else◌, List, length, slice_index_or, slice_set, Contains}
+use Rattle.std.specs.Prelude.{◌≡◌, ℕ, ◌<◌, ◌↔◌, Bool, true, false, if◌then◌else◌, List, length, slice_index_or, slice_set, Contains}
 use Rattle.base_partition.specs.working.Numbered.{is_member}
 
 -- a member of the list is of the class

@@ -1,5 +1,5 @@
 -- Which names and nodes are members of classes.
-use Rattle.std.specs.Prelude.{ℕ, Bool, true, false, not, List, ◌++◌, map, replicate}
+use Rattle.std.specs.Prelude.{ℕ, Bool, true, not, List, ◌++◌, map, replicate}
 use Rattle.flat_model.specs.declared.model.FlatName.{FlatName}
 
 -- each name that is no input, and each of n nodes

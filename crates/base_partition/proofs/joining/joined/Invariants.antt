@@ -1,4 +1,4 @@
-use Rattle.std.proofs.Common.{◌≡◌, ℕ, ◌++◌, drop}
+use Rattle.std.proofs.Common.{◌≡◌, ◌++◌, drop}
 use Rattle.base_partition.specs.working.Pairs.{class_pairs}
 use Rattle.base_partition.proofs.joining.joined.Given as goal
 

@@ -1,4 +1,4 @@
-use Rattle.std.proofs.Common.{◌≡◌, ℕ, length, take}
+use Rattle.std.proofs.Common.{length, take}
 use Rattle.base_partition.specs.working.Marks.{HasMarks}
 use Rattle.base_partition.proofs.marking.mark_all.Given as goal
 

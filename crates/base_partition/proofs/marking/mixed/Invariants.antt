@@ -1,4 +1,4 @@
-use Rattle.std.proofs.Common.{◌≡◌, ℕ, ◌<◌}
+use Rattle.std.proofs.Common.{ℕ, ◌<◌}
 use Rattle.base_partition.specs.working.Marks.{IsBoth}
 use Rattle.base_partition.proofs.marking.mixed.Given as goal
 

@@ -1,4 +1,4 @@
-use Rattle.std.proofs.Common.{◌≡◌, ℕ, Bool, true, not, ◌++◌, map, take, replicate}
+use Rattle.std.proofs.Common.{◌≡◌, true, not, ◌++◌, map, take, replicate}
 use Rattle.base_partition.proofs.member.members.Given as goal
 
 abbrev pub invariant-loop-name : goal.invariant-loop-name

@@ -1,4 +1,3 @@
-use Rattle.std.proofs.Common.{◌≡◌, ℕ, length}
 use Rattle.base_partition.specs.working.Numbered.{AreNumbers}
 use Rattle.base_partition.proofs.numbering.number.Given as goal
 

@@ -1,4 +1,4 @@
-use Rattle.std.proofs.Common.{rules, ◌≡◌, ℕ, ◌<◌, length, slice_index_or}
+use Rattle.std.proofs.Common.{rules, ◌≡◌, ℕ, ◌<◌, length}
 use Rattle.base_partition.specs.working.First.{IsFirst}
 use Rattle.base_partition.specs.working.Numbered.{first_of, AreNumbers}
 use Rattle.base_partition.proofs.ClassNumbers.{firsts_fit, class_numbers}

@@ -1,5 +1,4 @@
 use Rattle.std.proofs.Common.{rules, ◌≡◌, ℕ, ◌<◌, length, Some, None, slice_get, subst}
-use Rattle.base_partition.specs.Classified.{NoneMixed}
 use Rattle.base_partition.specs.working.Grouped.{IsGrouped}
 use Rattle.base_partition.specs.working.Marks.{IsBoth}
 use Rattle.base_partition.specs.working.Sources.{IsFirstMixed}

@@ -1,4 +1,4 @@
-use Rattle.std.proofs.Common.{rules, ◌≡◌, ◌<◌, ◌+◌, ◌++◌, [], ◌∷◌, length, sym, subst, get_or, take}
+use Rattle.std.proofs.Common.{rules, ◌≡◌, ◌<◌, ◌++◌, [], ◌∷◌, length, sym, subst, get_or, take}
 use Rattle.std.proofs.lemmas.List.{take_more}
 use Rattle.clock_terms.specs.Classing.{IsPlaceOf}
 use Rattle.base_partition.specs.working.Placed.{ArePlaces}

@@ -1,4 +1,4 @@
-use Rattle.std.proofs.Common.{◌≡◌, ℕ, take}
+use Rattle.std.proofs.Common.{take}
 use Rattle.base_partition.specs.working.Placed.{ArePlaces}
 use Rattle.base_partition.proofs.placing.places.Given as goal
 

@@ -1,4 +1,4 @@
-use Rattle.std.proofs.Common.{◌≡◌, ℕ, take}
+use Rattle.std.proofs.Common.{take}
 use Rattle.base_partition.specs.working.Sources.{IsLeastOf}
 use Rattle.base_partition.proofs.source.least.Given as goal
 

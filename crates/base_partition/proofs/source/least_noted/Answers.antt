@@ -1,4 +1,4 @@
-use Rattle.std.proofs.Common.{rules, ◌≡◌, length}
+use Rattle.std.proofs.Common.{length}
 use Rattle.base_partition.proofs.LeastSecond.{first_mixed}
 use Rattle.base_partition.proofs.source.least_noted.Goals as goal
 

@@ -1,4 +1,4 @@
-use Rattle.std.proofs.Common.{◌≡◌, ℕ, length, take}
+use Rattle.std.proofs.Common.{◌≡◌, length, take}
 use Rattle.base_partition.specs.working.Sources.{AreKept}
 use Rattle.base_partition.proofs.source.note_all.Given as goal
 
