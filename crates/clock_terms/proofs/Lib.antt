@@ -1,0 +1,13 @@
+pub mod Fractions
+pub mod Progressions
+pub mod Conversions
+pub mod ClockKinds
+pub mod Mentioned
+pub mod Cutting
+pub mod Leading
+pub mod Adding
+pub mod Joining
+pub mod Marking
+pub mod Listing
+pub mod Telling
+pub mod Whole

@@ -1,0 +1,12 @@
+pub mod Position
+pub mod Asked
+pub mod Source
+pub mod Clocking
+pub mod Mentions
+pub mod Nodes
+pub mod Said
+pub mod Least
+pub mod Listed
+pub mod Gathered
+pub mod Classing
+pub mod gathering

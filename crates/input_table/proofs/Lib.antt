@@ -1,0 +1,14 @@
+pub mod Cells
+pub mod Columns
+pub mod Counts
+pub mod Found
+pub mod NoTable
+pub mod Numbers
+pub mod Once
+pub mod OneRow
+pub mod Held
+pub mod Standing
+pub mod Sums
+pub mod Texts
+pub mod Times
+pub mod Whole

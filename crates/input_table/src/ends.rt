@@ -1,0 +1,40 @@
+use flat_model::Place;
+use std::alloc::AllocError;
+
+/// A rule of the table. This project's own.
+#[derive(Clone, Copy, Debug, PartialEq, Eq)]
+pub enum TableCode {
+    /// There is no first record, or its first field is neither `time` nor `time2`.
+    I1,
+    /// An input has no column.
+    I2,
+    /// A field of the header is no input, or repeats one before it.
+    I3,
+    /// A field is no value of its column.
+    I4,
+    /// The first time is not 0, or there is no row.
+    I5,
+    /// A later time is not above the one before.
+    I6,
+    /// A record is not as long as the header.
+    I7,
+}
+
+/// Why there is no table.
+#[derive(Debug, Drop)]
+pub enum TableEnd {
+    /// The first broken rule and its place.
+    Fault { code: TableCode, place: Place },
+    NoMemory,
+}
+
+impl From<AllocError> for TableEnd {
+    ghost use Rattle.std.specs.Prelude.{◌≡◌};
+    ghost use Rattle.input_table.specs.declared.ends.TableEnd.{TableEnd};
+
+    ghost from_gives = { λ _ end. end ≡ TableEnd.NoMemory };
+
+    fn from(_error: AllocError) -> TableEnd {
+        TableEnd::NoMemory
+    }
+}

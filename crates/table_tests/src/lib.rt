@@ -1,0 +1,5 @@
+//! Tests of input tables.
+#![tactic(auto)]
+
+#[cfg(test)]
+mod tables;
