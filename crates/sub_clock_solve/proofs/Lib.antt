@@ -7,3 +7,4 @@ pub mod Ending
 pub mod Seeds
 pub mod Once
 pub mod Rising
+pub mod Fitting

@@ -7,7 +7,7 @@ ghost use Rattle.clock_spread.specs.Queue.{marked};
 ghost use Rattle.clock_spread.specs.Turn.{said_by, Settles};
 ghost use Rattle.sub_clock_solve.specs.Given.{AreSources};
 ghost use Rattle.sub_clock_solve.specs.Solving.{Solves};
-ghost use Rattle.sub_clock_solve.specs.Standing.{FitTogether};
+ghost use Rattle.sub_clock_solve.specs.Standing.{FitTogether, HaveClasses};
 ghost use Rattle.sub_clock_solve.specs.Seeding.{start_of};
 ghost use Rattle.sub_clock_solve.specs.Spreading.{IsSpread};
 
@@ -19,9 +19,7 @@ use crate::seed::seeds;
 use clock_spread::{Found, spread};
 use clock_terms::{Classes, Grids, Relation, Terms};
 use std::alloc::{AllocError, Global};
-
-
-
+use sync_values::List;
 
 /// What is known of each class when all rounds are done, and the class whose clock was too fine first.
 #[derive(Drop)]
@@ -63,7 +61,7 @@ fn fitting(
     classes: &Classes,
     count: u32,
 ) -> Result<Grids, SolveEnd>
-    requires fit { FitTogether terms.now classes.now }
+    requires fit { HaveClasses terms.now classes.now }
     requires count { count ≡ length classes.now.clocked }
     requires givens { AreSources givens.now (sources_of terms.now.constructors) }
     requires spread { IsSpread terms.now classes.now found.now None }
@@ -89,7 +87,7 @@ fn judged(
     terms: &Terms,
     classes: &Classes,
 ) -> Result<Grids, SolveEnd>
-    requires fit { FitTogether terms.now classes.now }
+    requires fit { HaveClasses terms.now classes.now }
     requires givens { AreSources givens.now (sources_of terms.now.constructors) }
     requires spread { IsSpread terms.now classes.now all.now.found.items all.now.lost }
     ensures { Solves terms.now classes.now result }
@@ -107,6 +105,18 @@ fn judged(
     fitting(alloc, &all.found, givens, terms, classes, count)
 }
 
+/// The same, where there are classes at all.
+fn solve_some(alloc: Global, terms: &Terms, classes: &Classes) -> Result<Grids, SolveEnd>
+    requires { HaveClasses terms.now classes.now }
+    ensures { Solves terms.now classes.now result }
+{
+    let givens = given_clocks(alloc, terms.constructors.as_slice())?;
+    let relations = terms.relations.as_slice();
+    let class_of = classes.class_of.as_slice();
+    let all = spread_all(alloc, &givens, relations, class_of, classes.clocked.as_slice())?;
+    judged(alloc, &all, &givens, terms, classes)
+}
+
 /// The clocks of the clocked classes: those that the constructors and the conversions with a given factor give, round
 /// by round.
 ///
@@ -119,9 +129,8 @@ pub fn solve(alloc: Global, terms: &Terms, classes: &Classes) -> Result<Grids, S
     requires { FitTogether terms.now classes.now }
     ensures { Solves terms.now classes.now result }
 {
-    let givens = given_clocks(alloc, terms.constructors.as_slice())?;
-    let relations = terms.relations.as_slice();
-    let class_of = classes.class_of.as_slice();
-    let all = spread_all(alloc, &givens, relations, class_of, classes.clocked.as_slice())?;
-    judged(alloc, &all, &givens, terms, classes)
+    if classes.clocked.is_empty() {
+        return Ok(List::new(alloc));
+    }
+    solve_some(alloc, terms, classes)
 }
