@@ -22,8 +22,10 @@ lesser_least P Q (Some k) n true is isnt only h = (
   where
     le_or : (k n : ℕ) → (k ≤ n) ⊎ (n ≤ k)
     le_or k n = grind arith
+
     below : (m : ℕ) → m < min k n → (m < k) × (m < n)
     below m lt = (omega (arith, lt), omega (arith, lt))
+
     by_order : (k ≤ n) ⊎ (n ≤ k) → P (min k n) ⊎ Q (min k n)
     by_order (inl le) = let e : min k n ≡ k = omega (arith, le) in inl (subst P (sym e) h.0)
     by_order (inr le) = let e : min k n ≡ n = omega (arith, le) in inr (subst Q (sym e) (is refl))
@@ -37,9 +39,11 @@ least_more {X} number P xs i d o n b within key to from h =
   where
     New : ℕ → Type 0
     New m = (number (get_or xs i d) ≡ m) × P (get_or xs i d)
+
     joined : (m : ℕ) → IsNumberIn number P (take i xs) m ⊎ New m → IsNumberIn number P (take (i + 1) xs) m
     joined m (inl (x, in_list, is, p)) = (x, rw (take_more xs i d within) (Contains-append_left (take i xs) (get_or xs i d ∷ []) x in_list), is, p)
     joined m (inr (is, p)) = (get_or xs i d, rw (take_more xs i d within) (Contains-push (take i xs) (get_or xs i d)), is, p)
+
     split : (m : ℕ) → IsNumberIn number P (take (i + 1) xs) m → IsNumberIn number P (take i xs) m ⊎ New m
     split m (x, in_list, is, p) = ⊎_elim
         (λ old. inl (x, old, is, p))
@@ -59,8 +63,10 @@ least_both P Q (Some k) n h q = (
   where
     le_or : (k n : ℕ) → (k ≤ n) ⊎ (n ≤ k)
     le_or k n = grind arith
+
     below : (m : ℕ) → m < min k n → (m < k) × (m < n)
     below m lt = (omega (arith, lt), omega (arith, lt))
+
     by_order : (k ≤ n) ⊎ (n ≤ k) → P (min k n) ⊎ Q (min k n)
     by_order (inl le) = let e : min k n ≡ k = omega (arith, le) in inl (subst P (sym e) h.0)
     by_order (inr le) = let e : min k n ≡ n = omega (arith, le) in inr (subst Q (sym e) q.0)

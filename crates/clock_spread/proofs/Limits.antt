@@ -117,7 +117,7 @@ moved_at s p m n back negative k r size sign =
     let same_den : m.num * start.den ≡ w * m.den = ap (λ d. m.num * d) (moved_den s p n back k r) ∙ size in
     let plain = signs negative n back a b w refl sign in
     let balance : (if negative then 0 else w) + start.less ≡ start.more + (if negative then w else 0) =
-        rw (moved_more s p n back k r, moved_less s p n back k r) plain in
+    rw (moved_more s p n back k r, moved_less s p n back k r) plain in
     at_by m.num m.den w start.more start.less start.den negative same_den balance
 
 above_zero : (m d w den : ℕ) → m * den ≡ w * d → 0 < w → 0 < d → 0 < m

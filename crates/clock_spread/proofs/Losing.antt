@@ -33,9 +33,11 @@ mapped_is f (Some b) a e = cc
 -- a kept clock whose conversion is too fine stands for one whose conversion is
 pub lost_exact : (by : Conversion) (g : Grid) (o : Option Progression) → IsGiven by → Agrees (Kept g) o → IsTooFine (2 ^ 40) (converted by (progression_of_grid g))
     → (x : Progression) × (option_map (converted by) o ≡ Some x) × IsTooFine (2 ^ 40) x
-lost_exact by g o given (p, e, same) over =
-    (converted by p, mapped_is (converted by) o p e,
-    too_fine_same (2 ^ 40) (converted by (progression_of_grid g)) (converted by p) (converted_proper by (progression_of_grid g) given (grid_proper g)) (converted_same by (progression_of_grid g) p same) over)
+lost_exact by g o given (p, e, same) over = (
+  converted by p,
+  mapped_is (converted by) o p e,
+  too_fine_same (2 ^ 40) (converted by (progression_of_grid g)) (converted by p) (converted_proper by (progression_of_grid g) given (grid_proper g)) (converted_same by (progression_of_grid g) p same) over,
+)
 
 -- the first offer that is there
 exact_first : (found : Found) (a b : Option Progression) → IsExact found a → IsExact found (first_some a b)
@@ -77,6 +79,7 @@ module _ (P : Progression → Type 0) (keeps : (by : Conversion) (u : Progressio
     where
       moved : (by : Conversion) (x : ℕ) → IsGiven by → option_map (converted by) (held x) ≡ Some p → P p
       moved by x given e = let (a, at, is) = mapped_from (converted by) (held x) p e in subst P is (keeps by a given (all x a at))
+
       by : (g a b : Bool) → is_given r.by ≡ g
           → (if g && a then option_map (converted r.by) (held (class_of r.argument)) else if g && b then option_map (converted (inverse r.by)) (held (class_of r.result)) else None) ≡ Some p → P p
       by true true b g e = moved r.by (class_of r.argument) (given_is r.by g) e
@@ -144,13 +147,19 @@ first_more said held n None None found next h are next_lost = λ m lt c new. ⊎
   where
     less_or : (m : ℕ) → m < suc n → (m < n) ⊎ (m ≡ n)
     less_or m lt = grind arith
+
     at : (m : ℕ) → m ≡ n → (c : ℕ) → NewlyTooFine said (after_more said held m) c → NewlyTooFine said (after_more said held n) c
     at m e c new = subst (λ k. NewlyTooFine said (after_more said held k) c) e new
 first_more said held n None (Some c) found next h are next_lost =
-    let (x, within, is, e) = next_lost.0 in
-    (n, omega arith, h,
-    ((are refl).too_fine c (subst (λ y. found_of found y ≡ Lost) is e),
-    λ m lt new. next_lost.1 m lt (m, (are refl).listed m ((are refl).lost m new), refl, (are refl).lost m new)))
+    let (x, within, is, e) = next_lost.0 in (
+      n,
+      omega arith,
+      h,
+      (
+        (are refl).too_fine c (subst (λ y. found_of found y ≡ Lost) is e),
+        λ m lt new. next_lost.1 m lt (m, (are refl).listed m ((are refl).lost m new), refl, (are refl).lost m new),
+      ),
+    )
 
 pub none_more : (said : Said) (held : Held) (n : ℕ) (before lost : Option ℕ) (found : List Found) (next : List ℕ)
     → (before ≡ None → AreLost said (after_more said held n) found next) → IsNextLost before found next lost → lost ≡ None → NoneLost found

@@ -64,15 +64,15 @@ module _ (said : Said) (held : Held) (h : IsClocking said held) where
   seeded_fits [] c p proper holds e = absurd (none_some e)
   seeded_fits (s ∷ ss) c p proper holds e = by_test (said.class_of s.node == c)
       (λ t.
-          let this : Some s.clock ≡ Some p = subst (λ b. (if b then Some s.clock else seeded said.class_of ss c) ≡ Some p) t e in
-          let (q, at, together) = All-head (SourceHolds said held) s ss holds in
-          let good = All-head (λ s. IsProper s.clock) s ss proper in
-          let own = held_proper (said.class_of s.node) q at in
-          let found : Fits (said.class_of s.node) s.clock = (good, q, at, own, ticks_same q s.clock own good together) in
-          subst (λ x. Fits c x) (some_same this) (fits_here c (said.class_of s.node) s.clock (eqb-true (said.class_of s.node) c t) found))
+      let this : Some s.clock ≡ Some p = subst (λ b. (if b then Some s.clock else seeded said.class_of ss c) ≡ Some p) t e in
+      let (q, at, together) = All-head (SourceHolds said held) s ss holds in
+      let good = All-head (λ s. IsProper s.clock) s ss proper in
+      let own = held_proper (said.class_of s.node) q at in
+      let found : Fits (said.class_of s.node) s.clock = (good, q, at, own, ticks_same q s.clock own good together) in
+      subst (λ x. Fits c x) (some_same this) (fits_here c (said.class_of s.node) s.clock (eqb-true (said.class_of s.node) c t) found))
       (λ f.
-          let later : seeded said.class_of ss c ≡ Some p = subst (λ b. (if b then Some s.clock else seeded said.class_of ss c) ≡ Some p) f e in
-          seeded_fits ss c p (All-tail (λ s. IsProper s.clock) s ss proper) (All-tail (SourceHolds said held) s ss holds) later)
+      let later : seeded said.class_of ss c ≡ Some p = subst (λ b. (if b then Some s.clock else seeded said.class_of ss c) ≡ Some p) f e in
+      seeded_fits ss c p (All-tail (λ s. IsProper s.clock) s ss proper) (All-tail (SourceHolds said held) s ss holds) later)
 
   -- what a relation gives its result from the clock of its argument
   onward : (r : Relation) (a : Progression) → IsGiven r.by → RelationHolds said held r → Fits (said.class_of r.argument) a → Fits (said.class_of r.result) (converted r.by a)
@@ -81,9 +81,13 @@ module _ (said : Said) (held : Held) (h : IsClocking said held) where
       let same_u : AreSame u a = subst (λ x. AreSame x a) (sym equal) same in
       let proper_y = held_proper (said.class_of r.result) y at_y in
       let proper_u = held_proper (said.class_of r.argument) u at_u in
-      let is = asks_converted r.by y u given proper_y proper_u asks in
-      (converted_proper r.by a given proper, y, at_y, proper_y,
-      same_trans y (converted r.by u) (converted r.by a) (converted_proper r.by u given proper_u) is (converted_same r.by u a same_u))
+      let is = asks_converted r.by y u given proper_y proper_u asks in (
+        converted_proper r.by a given proper,
+        y,
+        at_y,
+        proper_y,
+        same_trans y (converted r.by u) (converted r.by a) (converted_proper r.by u given proper_u) is (converted_same r.by u a same_u),
+      )
 
   -- and its argument from the clock of its result
   backward : (r : Relation) (a : Progression) → IsGiven r.by → RelationHolds said held r → Fits (said.class_of r.result) a → Fits (said.class_of r.argument) (converted (inverse r.by) a)
@@ -93,9 +97,13 @@ module _ (said : Said) (held : Held) (h : IsClocking said held) where
       let proper_y = held_proper (said.class_of r.result) y at_y in
       let proper_u = held_proper (said.class_of r.argument) u at_u in
       let is = asks_back r.by y u given proper_y proper_u asks in
-      let back = inverse_given r.by given in
-      (converted_proper (inverse r.by) a back proper, u, at_u, proper_u,
-      same_trans u (converted (inverse r.by) y) (converted (inverse r.by) a) (converted_proper (inverse r.by) y back proper_y) is (converted_same (inverse r.by) y a same_y))
+      let back = inverse_given r.by given in (
+        converted_proper (inverse r.by) a back proper,
+        u,
+        at_u,
+        proper_u,
+        same_trans u (converted (inverse r.by) y) (converted (inverse r.by) a) (converted_proper (inverse r.by) y back proper_y) is (converted_same (inverse r.by) y a same_y),
+      )
 
   offer_fits : (before : Held) (r : Relation) (c : ℕ) (p : Progression) → ((c : ℕ) (p : Progression) → before c ≡ Some p → Fits c p)
       → RelationHolds said held r → offer said.class_of before r c ≡ Some p → Fits c p
@@ -104,38 +112,38 @@ module _ (said : Said) (held : Held) (h : IsClocking said held) where
       let back = option_map (converted (inverse r.by)) (before (said.class_of r.result)) in
       by_test (is_given r.by && said.class_of r.result == c)
       (λ t.
-          let two = both_true (is_given r.by) (said.class_of r.result == c) t in
-          let (a, at, is) = mapped (converted r.by) (before (said.class_of r.argument)) p
-              (subst (λ b. (if b then forward else if is_given r.by && said.class_of r.argument == c then back else None) ≡ Some p) t e) in
-          subst (λ x. Fits c x) is (fits_here c (said.class_of r.result) (converted r.by a) (eqb-true (said.class_of r.result) c two.1)
-          (onward r a (given_is r.by two.0) holds (known (said.class_of r.argument) a at))))
+      let two = both_true (is_given r.by) (said.class_of r.result == c) t in
+      let (a, at, is) = mapped (converted r.by) (before (said.class_of r.argument)) p
+      (subst (λ b. (if b then forward else if is_given r.by && said.class_of r.argument == c then back else None) ≡ Some p) t e) in
+      subst (λ x. Fits c x) is (fits_here c (said.class_of r.result) (converted r.by a) (eqb-true (said.class_of r.result) c two.1)
+      (onward r a (given_is r.by two.0) holds (known (said.class_of r.argument) a at))))
       (λ f.
-          let rest : (if is_given r.by && said.class_of r.argument == c then back else None) ≡ Some p =
-              subst (λ b. (if b then forward else if is_given r.by && said.class_of r.argument == c then back else None) ≡ Some p) f e in
-          by_test (is_given r.by && said.class_of r.argument == c)
-          (λ t.
-              let two = both_true (is_given r.by) (said.class_of r.argument == c) t in
-              let (a, at, is) = mapped (converted (inverse r.by)) (before (said.class_of r.result)) p (subst (λ b. (if b then back else None) ≡ Some p) t rest) in
-              subst (λ x. Fits c x) is (fits_here c (said.class_of r.argument) (converted (inverse r.by) a) (eqb-true (said.class_of r.argument) c two.1)
-              (backward r a (given_is r.by two.0) holds (known (said.class_of r.result) a at))))
-          (λ g. absurd (none_some (subst (λ b. (if b then back else None) ≡ Some p) g rest))))
+      let rest : (if is_given r.by && said.class_of r.argument == c then back else None) ≡ Some p =
+      subst (λ b. (if b then forward else if is_given r.by && said.class_of r.argument == c then back else None) ≡ Some p) f e in
+      by_test (is_given r.by && said.class_of r.argument == c)
+      (λ t.
+      let two = both_true (is_given r.by) (said.class_of r.argument == c) t in
+      let (a, at, is) = mapped (converted (inverse r.by)) (before (said.class_of r.result)) p (subst (λ b. (if b then back else None) ≡ Some p) t rest) in
+      subst (λ x. Fits c x) is (fits_here c (said.class_of r.argument) (converted (inverse r.by) a) (eqb-true (said.class_of r.argument) c two.1)
+      (backward r a (given_is r.by two.0) holds (known (said.class_of r.result) a at))))
+      (λ g. absurd (none_some (subst (λ b. (if b then back else None) ≡ Some p) g rest))))
 
   offered_fits : (before : Held) (rs : List Relation) (c : ℕ) (p : Progression) → ((c : ℕ) (p : Progression) → before c ≡ Some p → Fits c p)
       → All (RelationHolds said held) rs → offered said.class_of before rs c ≡ Some p → Fits c p
   offered_fits before [] c p known holds e = absurd (none_some e)
   offered_fits before (r ∷ rs) c p known holds e =
       elim (first_some_is (offer said.class_of before r c) (offered said.class_of before rs c) p e) [
-        inl this ↦ offer_fits before r c p known (All-head (RelationHolds said held) r rs holds) this
-      | inr later ↦ offered_fits before rs c p known (All-tail (RelationHolds said held) r rs holds) later
+        | inl this ↦ offer_fits before r c p known (All-head (RelationHolds said held) r rs holds) this
+        | inr later ↦ offered_fits before rs c p known (All-tail (RelationHolds said held) r rs holds) later
       ]
 
   pub round_fits : All (λ s. IsProper s.clock) said.sources → (round c : ℕ) (p : Progression) → after_round said round c ≡ Some p → Fits c p
   round_fits proper zero c p e = seeded_fits said.sources c p proper h.sources (if_clocked_is (said.clocked c) (seeded said.class_of said.sources c) p e)
   round_fits proper (suc round) c p e =
       elim (first_some_is (after_round said round c) (if_clocked (said.clocked c) (offered said.class_of (after_round said round) said.relations c)) p e) [
-        inl old ↦ round_fits proper round c p old
-      | inr new ↦ offered_fits (after_round said round) said.relations c p (round_fits proper round) h.relations
-          (if_clocked_is (said.clocked c) (offered said.class_of (after_round said round) said.relations c) p new)
+        | inl old ↦ round_fits proper round c p old
+        | inr new ↦ offered_fits (after_round said round) said.relations c p (round_fits proper round) h.relations
+            (if_clocked_is (said.clocked c) (offered said.class_of (after_round said round) said.relations c) p new)
       ]
 
 -- law: where every class gets a clock, every clocking gives it that clock
@@ -161,12 +169,12 @@ source_conflict said gotten held s proper g within fails h =
     let good = All-contains (λ s. IsProper s.clock) said.sources s proper within in
     by_test (said.clocked c)
     (λ t.
-        let (p, at_p, gets) = g.clocked c t in
-        let (proper_p, r, at_r, proper_r, same) = round_fits said held h proper gets.0 c p gets.1 in
-        let own : IsProper q = subst IsProper (some_same (sym at_r ∙ at)) proper_r in
-        let same_q : AreSame q p = subst (λ x. AreSame x p) (some_same (sym at_r ∙ at)) same in
-        let both = same_trans p q s.clock own (same_sym q p same_q) (ticks_same q s.clock own good together) in
-        fails (p, at_p, record { site = both.site; ticks = same_ticks p s.clock both }))
+    let (p, at_p, gets) = g.clocked c t in
+    let (proper_p, r, at_r, proper_r, same) = round_fits said held h proper gets.0 c p gets.1 in
+    let own : IsProper q = subst IsProper (some_same (sym at_r ∙ at)) proper_r in
+    let same_q : AreSame q p = subst (λ x. AreSame x p) (some_same (sym at_r ∙ at)) same in
+    let both = same_trans p q s.clock own (same_sym q p same_q) (ticks_same q s.clock own good together) in
+    fails (p, at_p, record { site = both.site; ticks = same_ticks p s.clock both }))
     (λ f. absurd (none_some (sym (h.unclocked c f) ∙ at)))
 
 pub relation_conflict : (said : Said) (gotten held : Held) (r : Relation) → All (λ s. IsProper s.clock) said.sources → AreGotten said gotten
@@ -177,18 +185,18 @@ relation_conflict said gotten held r proper g within given fails h =
     let d = said.class_of r.argument in
     by_test (said.clocked c)
     (λ t. by_test (said.clocked d)
-        (λ w.
-            let (p, at_p, gets_p) = g.clocked c t in
-            let (v, at_v, gets_v) = g.clocked d w in
-            let (proper_p, y2, at_y2, proper_y2, same_p) = round_fits said held h proper gets_p.0 c p gets_p.1 in
-            let (proper_v, u2, at_u2, proper_u2, same_v) = round_fits said held h proper gets_v.0 d v gets_v.1 in
-            let proper_y : IsProper y = subst IsProper (some_same (sym at_y2 ∙ at_y)) proper_y2 in
-            let proper_u : IsProper u = subst IsProper (some_same (sym at_u2 ∙ at_u)) proper_u2 in
-            let same_y : AreSame y p = subst (λ x. AreSame x p) (some_same (sym at_y2 ∙ at_y)) same_p in
-            let same_u : AreSame u v = subst (λ x. AreSame x v) (some_same (sym at_u2 ∙ at_u)) same_v in
-            let is = asks_converted r.by y u given proper_y proper_u asks in
-            let onto = same_trans y (converted r.by u) (converted r.by v) (converted_proper r.by u given proper_u) is (converted_same r.by u v same_u) in
-            let whole = same_trans p y (converted r.by v) proper_y (same_sym y p same_y) onto in
-            fails (p, v, at_p, at_v, converted_asks r.by p v given proper_p proper_v whole))
-        (λ f. absurd (none_some (sym (h.unclocked d f) ∙ at_u))))
+    (λ w.
+    let (p, at_p, gets_p) = g.clocked c t in
+    let (v, at_v, gets_v) = g.clocked d w in
+    let (proper_p, y2, at_y2, proper_y2, same_p) = round_fits said held h proper gets_p.0 c p gets_p.1 in
+    let (proper_v, u2, at_u2, proper_u2, same_v) = round_fits said held h proper gets_v.0 d v gets_v.1 in
+    let proper_y : IsProper y = subst IsProper (some_same (sym at_y2 ∙ at_y)) proper_y2 in
+    let proper_u : IsProper u = subst IsProper (some_same (sym at_u2 ∙ at_u)) proper_u2 in
+    let same_y : AreSame y p = subst (λ x. AreSame x p) (some_same (sym at_y2 ∙ at_y)) same_p in
+    let same_u : AreSame u v = subst (λ x. AreSame x v) (some_same (sym at_u2 ∙ at_u)) same_v in
+    let is = asks_converted r.by y u given proper_y proper_u asks in
+    let onto = same_trans y (converted r.by u) (converted r.by v) (converted_proper r.by u given proper_u) is (converted_same r.by u v same_u) in
+    let whole = same_trans p y (converted r.by v) proper_y (same_sym y p same_y) onto in
+    fails (p, v, at_p, at_v, converted_asks r.by p v given proper_p proper_v whole))
+    (λ f. absurd (none_some (sym (h.unclocked d f) ∙ at_u))))
     (λ f. absurd (none_some (sym (h.unclocked c f) ∙ at_y)))

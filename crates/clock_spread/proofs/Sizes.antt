@@ -30,12 +30,16 @@ same_size a b p e = ⊎_elim
 
 pub past_same : (limit : ℕ) (a b : Position) → 0 < a.den → IsAt a b → IsPastLimit limit a → IsPastLimit limit b
 past_same limit a b p e (num, den, low, over) =
-    let size = same_size a b p e in
-    (num, den, record {
-      positive = low.positive;
-      same = eq_of_mul-eq-mul_right a.den p (num * b.den) (abs_diff b.more b.less * den) (omega (arith, ap (λ z. z * b.den) low.same, ap (λ z. z * den) size));
-      lowest = low.lowest;
-    }, over)
+    let size = same_size a b p e in (
+      num,
+      den,
+      record {
+        positive = low.positive;
+        same = eq_of_mul-eq-mul_right a.den p (num * b.den) (abs_diff b.more b.less * den) (omega (arith, ap (λ z. z * b.den) low.same, ap (λ z. z * den) size));
+        lowest = low.lowest;
+      },
+      over,
+    )
 
 -- so a clock is too fine whatever fractions say it
 pub too_fine_same : (limit : ℕ) (a b : Progression) → IsProper a → AreSame a b → IsTooFine limit a → IsTooFine limit b

@@ -66,17 +66,17 @@ offer_from : (class_of : ℕ → ℕ) (held : Held) (r : Relation) (c : ℕ) (p 
     → (d : ℕ) × IsBetween class_of r c d × ((x : Progression) × (held d ≡ Some x))
 offer_from class_of held r c p e = by_test (here class_of r c)
     (λ t.
-        let two = both_true (is_given r.by) (class_of r.result == c) t in
-        let m = mapped_some (converted r.by) (held (class_of r.argument)) p (subst (λ b. (if b then forward class_of held r else if there class_of r c then back class_of held r else None) ≡ Some p) t e) in
-        (class_of r.argument, record { given = two.0; ends = inl (eqb-true (class_of r.result) c two.1, refl) }, m))
+    let two = both_true (is_given r.by) (class_of r.result == c) t in
+    let m = mapped_some (converted r.by) (held (class_of r.argument)) p (subst (λ b. (if b then forward class_of held r else if there class_of r c then back class_of held r else None) ≡ Some p) t e) in
+    (class_of r.argument, record { given = two.0; ends = inl (eqb-true (class_of r.result) c two.1, refl) }, m))
     (λ f.
-        let rest : (if there class_of r c then back class_of held r else None) ≡ Some p = subst (λ b. (if b then forward class_of held r else if there class_of r c then back class_of held r else None) ≡ Some p) f e in
-        by_test (there class_of r c)
-        (λ t.
-            let two = both_true (is_given r.by) (class_of r.argument == c) t in
-            let m = mapped_some (converted (inverse r.by)) (held (class_of r.result)) p (subst (λ b. (if b then back class_of held r else None) ≡ Some p) t rest) in
-            (class_of r.result, record { given = two.0; ends = inr (eqb-true (class_of r.argument) c two.1, refl) }, m))
-        (λ g. absurd (none_some (subst (λ b. (if b then back class_of held r else None) ≡ Some p) g rest))))
+    let rest : (if there class_of r c then back class_of held r else None) ≡ Some p = subst (λ b. (if b then forward class_of held r else if there class_of r c then back class_of held r else None) ≡ Some p) f e in
+    by_test (there class_of r c)
+    (λ t.
+    let two = both_true (is_given r.by) (class_of r.argument == c) t in
+    let m = mapped_some (converted (inverse r.by)) (held (class_of r.result)) p (subst (λ b. (if b then back class_of held r else None) ≡ Some p) t rest) in
+    (class_of r.result, record { given = two.0; ends = inr (eqb-true (class_of r.argument) c two.1, refl) }, m))
+    (λ g. absurd (none_some (subst (λ b. (if b then back class_of held r else None) ≡ Some p) g rest))))
 
 first_some_is : {A : Type 0} (a b : Option A) (p : A) → first_some a b ≡ Some p → (a ≡ Some p) ⊎ (b ≡ Some p)
 first_some_is None b p e = inr e
@@ -86,9 +86,9 @@ pub offered_from : (class_of : ℕ → ℕ) (held : Held) (rs : List Relation) (
     → (r : Relation) × Contains rs r × ((d : ℕ) × IsBetween class_of r c d × ((x : Progression) × (held d ≡ Some x)))
 offered_from class_of held [] c p e = absurd (none_some e)
 offered_from class_of held (r ∷ rs) c p e = elim (first_some_is (offer class_of held r c) (offered class_of held rs c) p e) [
-    inl this ↦ (r, contains_first r rs, offer_from class_of held r c p this)
+  | inl this ↦ (r, contains_first r rs, offer_from class_of held r c p this)
   | inr later ↦ let (s, within, from) = offered_from class_of held rs c p later in (s, contains_later r s rs within, from)
-  ]
+]
 
 -- and the other end makes one, where the class itself has no clock
 is_true : (a b : Bool) → a ≡ true → b ≡ true → (a && b) ≡ true
@@ -103,20 +103,20 @@ offer_some : (class_of : ℕ → ℕ) (held : Held) (r : Relation) (c d : ℕ) (
     → (p : Progression) × (offer class_of held r c ≡ Some p)
 offer_some class_of held r c d x between has none = by_test (here class_of r c)
     (λ t. ⊎_elim
-        (λ e.
-            let m = mapped_is (converted r.by) (held (class_of r.argument)) x (ap held e.1 ∙ has) in
-            (converted r.by x, rw t m))
-        (λ e.
-            let same : c ≡ d = sym (eqb-true (class_of r.result) c (both_true (is_given r.by) (class_of r.result == c) t).1) ∙ e.1 in
-            absurd (none_some (sym none ∙ ap held same ∙ has)))
-        between.ends)
+    (λ e.
+    let m = mapped_is (converted r.by) (held (class_of r.argument)) x (ap held e.1 ∙ has) in
+    (converted r.by x, rw t m))
+    (λ e.
+    let same : c ≡ d = sym (eqb-true (class_of r.result) c (both_true (is_given r.by) (class_of r.result == c) t).1) ∙ e.1 in
+    absurd (none_some (sym none ∙ ap held same ∙ has)))
+    between.ends)
     (λ f. ⊎_elim
-        (λ e. absurd (clash (sym f ∙ is_true (is_given r.by) (class_of r.result == c) between.given (eq-eqb (class_of r.result) c e.0))))
-        (λ e.
-            let t : there class_of r c ≡ true = is_true (is_given r.by) (class_of r.argument == c) between.given (eq-eqb (class_of r.argument) c e.0) in
-            let m = mapped_is (converted (inverse r.by)) (held (class_of r.result)) x (ap held e.1 ∙ has) in
-            (converted (inverse r.by) x, rw (f, t) m))
-        between.ends)
+    (λ e. absurd (clash (sym f ∙ is_true (is_given r.by) (class_of r.result == c) between.given (eq-eqb (class_of r.result) c e.0))))
+    (λ e.
+    let t : there class_of r c ≡ true = is_true (is_given r.by) (class_of r.argument == c) between.given (eq-eqb (class_of r.argument) c e.0) in
+    let m = mapped_is (converted (inverse r.by)) (held (class_of r.result)) x (ap held e.1 ∙ has) in
+    (converted (inverse r.by) x, rw (f, t) m))
+    between.ends)
   where
     clash : false ≡ true → ⊥
     clash e = absurd cc
@@ -129,9 +129,9 @@ pub offered_some : (class_of : ℕ → ℕ) (held : Held) (rs : List Relation) (
     → (p : Progression) × (offered class_of held rs c ≡ Some p)
 offered_some class_of held [] r c d x within between has none = absurd (omega (arith, within.1))
 offered_some class_of held (s ∷ rs) r c d x within between has none = elim (contains_cases s r rs within) [
-    inl e ↦ let o = offer_some class_of held r c d x between has none in (o.0, first_of_some (offer class_of held s c) (offered class_of held rs c) o.0 (subst (λ z. offer class_of held z c ≡ Some o.0) (sym e) o.1))
+  | inl e ↦ let o = offer_some class_of held r c d x between has none in (o.0, first_of_some (offer class_of held s c) (offered class_of held rs c) o.0 (subst (λ z. offer class_of held z c ≡ Some o.0) (sym e) o.1))
   | inr w ↦ let o = offered_some class_of held rs r c d x w between has none in first_is (offer class_of held s c) (offered class_of held rs c) o.0 o.1
-  ]
+]
   where
     first_of_some : (a b : Option Progression) (p : Progression) → a ≡ Some p → first_some a b ≡ Some p
     first_of_some None b p e = absurd (none_some e)
@@ -158,8 +158,8 @@ pub takes_from_last : (said : Said) (round c : ℕ) (p : Progression) → after_
     → (r : Relation) × Contains said.relations r × ((d : ℕ) × IsBetween said.class_of r c d × (after_round said round d ≡ None) × ((x : Progression) × (after_round said (suc round) d ≡ Some x)))
 takes_from_last said round c p none takes =
     let new : (said.clocked c ≡ true) × (offered said.class_of (after_round said (suc round)) said.relations c ≡ Some p) =
-        if_clocked_is (said.clocked c) (offered said.class_of (after_round said (suc round)) said.relations c) p
-        (subst (λ o. first_some o (if_clocked (said.clocked c) (offered said.class_of (after_round said (suc round)) said.relations c)) ≡ Some p) none takes) in
+    if_clocked_is (said.clocked c) (offered said.class_of (after_round said (suc round)) said.relations c) p
+    (subst (λ o. first_some o (if_clocked (said.clocked c) (offered said.class_of (after_round said (suc round)) said.relations c)) ≡ Some p) none takes) in
     let (r, within, (d, between, has)) = offered_from said.class_of (after_round said (suc round)) said.relations c p new.1 in
     (r, within, (d, between, not_before r d within between (after_round said round d) refl, has))
   where
@@ -167,16 +167,18 @@ takes_from_last said round c p none takes =
     both_none None true o q e f g = g
     both_none (Some a) b o q e f g = absurd (none_some (sym e))
     both_none None false o q e f g = absurd cc
+
     before_none : {A : Type 0} (a b : Option A) → first_some a b ≡ None → a ≡ None
     before_none None b e = refl
     before_none (Some a) b e = absurd (none_some (sym e))
+
     not_before : (r : Relation) (d : ℕ) → Contains said.relations r → IsBetween said.class_of r c d → (o : Option Progression) → after_round said round d ≡ o → after_round said round d ≡ None
     not_before r d within between None e = e
     not_before r d within between (Some x) e =
         let c_none : after_round said round c ≡ None = before_none (after_round said round c) (if_clocked (said.clocked c) (offered said.class_of (after_round said round) said.relations c)) none in
         let o = offered_some said.class_of (after_round said round) said.relations r c d x within between e c_none in
         let clocked : said.clocked c ≡ true = (if_clocked_is (said.clocked c) (offered said.class_of (after_round said (suc round)) said.relations c) p
-            (subst (λ o. first_some o (if_clocked (said.clocked c) (offered said.class_of (after_round said (suc round)) said.relations c)) ≡ Some p) none takes)).0 in
+        (subst (λ o. first_some o (if_clocked (said.clocked c) (offered said.class_of (after_round said (suc round)) said.relations c)) ≡ Some p) none takes)).0 in
         let got : after_round said (suc round) c ≡ Some o.0 = both_none (after_round said round c) (said.clocked c) (offered said.class_of (after_round said round) said.relations c) o.0 c_none clocked o.1 in
         absurd (none_some (sym none ∙ got))
 
@@ -205,10 +207,12 @@ offered_touching class_of held (r ∷ rs) c =
 
 pub kept_onward : (by : Conversion) (g h : Grid) (o : Option Progression) → IsGiven by → Agrees (Kept g) o → AreSame (progression_of_grid h) (converted by (progression_of_grid g))
     → (x : Progression) × (option_map (converted by) o ≡ Some x) × AreSame (progression_of_grid h) x
-kept_onward by g h o given (p, e, same) is =
-    (converted by p, mapped_is (converted by) o p e,
-    same_trans (progression_of_grid h) (converted by (progression_of_grid g)) (converted by p) (converted_proper by (progression_of_grid g) given (grid_proper g)) is
-    (converted_same by (progression_of_grid g) p same))
+kept_onward by g h o given (p, e, same) is = (
+  converted by p,
+  mapped_is (converted by) o p e,
+  same_trans (progression_of_grid h) (converted by (progression_of_grid g)) (converted by p) (converted_proper by (progression_of_grid g) given (grid_proper g)) is
+      (converted_same by (progression_of_grid g) p same),
+)
 
 pub lost_onward : (by : Conversion) (p : Progression) (o : Option Progression) → o ≡ Some p → (x : Progression) × (option_map (converted by) o ≡ Some x)
 lost_onward by p o e = (converted by p, mapped_is (converted by) o p e)

@@ -66,6 +66,7 @@ filter_contains p (y ∷ ys) x h = cases (λ w. filter_contains p ys x w) (p y) 
   where
     later : (Contains (filter p ys) x → Contains ys x × (p x ≡ true)) → Contains (filter p ys) x → Contains (y ∷ ys) x × (p x ≡ true)
     later again w = let r = again w in ((suc r.0.0, omega (arith, r.0.1), r.0.2), r.1)
+
     cases : (Contains (filter p ys) x → Contains ys x × (p x ≡ true)) → (b : Bool) → p y ≡ b → Contains (if b then y ∷ filter p ys else filter p ys) x → Contains (y ∷ ys) x × (p x ≡ true)
     cases again true e (zero, within, is) = ((0, omega arith, is), subst (λ z. p z ≡ true) is e)
     cases again true e (suc j, within, is) = later again (j, omega (arith, within), is)
@@ -103,6 +104,7 @@ between_end class_of d r t = by_test (class_of r.result == d)
     given : is_given r.by ≡ true
     given = ⊎_elim (λ e. (both_true (is_given r.by) (class_of r.result == d) e).0) (λ e. (both_true (is_given r.by) (class_of r.argument == d) e).0)
         (or_true (is_given r.by && class_of r.result == d) (is_given r.by && class_of r.argument == d) t)
+
     second : (class_of r.result == d) ≡ false → (class_of r.argument == d) ≡ true
     second f = ⊎_elim (λ e. absurd (true_false (both_true (is_given r.by) (class_of r.result == d) e).1 f)) (λ e. (both_true (is_given r.by) (class_of r.argument == d) e).1)
         (or_true (is_given r.by && class_of r.result == d) (is_given r.by && class_of r.argument == d) t)
@@ -115,9 +117,9 @@ between_touches class_of c d r b = is_or (is_given r.by && class_of r.result == 
 end_between : (class_of : ℕ → ℕ) (c d : ℕ) (r : Relation) → IsBetween class_of r c d → (c ≡ d → ⊥) → other_end class_of d r ≡ c
 end_between class_of c d r b apart = by_test (class_of r.result == d)
     (λ e. subst (λ x. (if x then class_of r.argument else class_of r.result) ≡ c) (sym e)
-        (⊎_elim (λ h. absurd (apart (sym h.0 ∙ eqb-true (class_of r.result) d e))) (λ h. h.0) b.ends))
+    (⊎_elim (λ h. absurd (apart (sym h.0 ∙ eqb-true (class_of r.result) d e))) (λ h. h.0) b.ends))
     (λ f. subst (λ x. (if x then class_of r.argument else class_of r.result) ≡ c) (sym f)
-        (⊎_elim (λ h. h.0) (λ h. absurd (eqb-false (class_of r.result) d f h.1)) b.ends))
+    (⊎_elim (λ h. h.0) (λ h. absurd (eqb-false (class_of r.result) d f h.1)) b.ends))
 
 if_clocked_is : (b : Bool) (o : Option Progression) (p : Progression) → if_clocked b o ≡ Some p → (b ≡ true) × (o ≡ Some p)
 if_clocked_is true o p e = (refl, e)
@@ -169,12 +171,12 @@ module _ (class_of : List ℕ) (clocked : List Bool) (relations : List Relation)
   new_agrees : (c : ℕ) → Contains next c → Agrees (found_of found' c) (offers c)
   new_agrees c h = ⊎_elim
       (λ (k, within, is, f).
-          let bound : c < length lists = subst (λ x. x < length lists) is (below k 0 within) in
-          let at : Agrees (found_of news k) (offered (class_in class_of) held (slice_index_or lists c []) c) =
-              subst (λ x. Agrees (found_of news k) (offered (class_in class_of) held (slice_index_or lists x []) x)) is (takes k within) in
-          let all : offered (class_in class_of) held (slice_index_or lists c []) c ≡ offers c =
-              ap (λ l. offered (class_in class_of) held l c) (t c bound) ∙ offered_touching (class_in class_of) held relations c in
-          subst (λ x. Agrees x (offers c)) (sym f) (subst (λ o. Agrees (found_of news k) o) all at))
+      let bound : c < length lists = subst (λ x. x < length lists) is (below k 0 within) in
+      let at : Agrees (found_of news k) (offered (class_in class_of) held (slice_index_or lists c []) c) =
+      subst (λ x. Agrees (found_of news k) (offered (class_in class_of) held (slice_index_or lists x []) x)) is (takes k within) in
+      let all : offered (class_in class_of) held (slice_index_or lists c []) c ≡ offers c =
+      ap (λ l. offered (class_in class_of) held l c) (t c bound) ∙ offered_touching (class_in class_of) held relations c in
+      subst (λ x. Agrees x (offers c)) (sym f) (subst (λ o. Agrees (found_of news k) o) all at))
       (λ (none, f). let p = place c h in absurd (none p.0 p.1 p.2))
       (m c)
 
@@ -192,9 +194,9 @@ module _ (class_of : List ℕ) (clocked : List Bool) (relations : List Relation)
   old_after c out = ⊎_elim
       (λ (p, e). first_of_some (held c) (if_clocked (marked clocked c) (offers c)) p e)
       (λ e. ⊎_elim
-          (λ (p, takes_it). absurd (none_of p e takes_it))
-          (λ none. none ∙ sym e)
-          (some_or_none (after c)))
+      (λ (p, takes_it). absurd (none_of p e takes_it))
+      (λ none. none ∙ sym e)
+      (some_or_none (after c)))
       (some_or_none (held c))
     where
       none_of : (p : Progression) → held c ≡ None → after c ≡ Some p → ⊥
@@ -208,9 +210,9 @@ module _ (class_of : List ℕ) (clocked : List Bool) (relations : List Relation)
   queued_or_not : (c : ℕ) → Contains next c ⊎ (Contains next c → ⊥)
   queued_or_not c = by_test (marked marks' c)
       (λ is. ⊎_elim
-          (λ old. inr (λ h. true_false old (queued c h).0))
-          (λ h. inl h)
-          (q.listed c is))
+      (λ old. inr (λ h. true_false old (queued c h).0))
+      (λ h. inl h)
+      (q.listed c is))
       (λ isnt. inr (λ h. true_false (let r = queued c h in q.all c r.2 r.1) isnt))
 
   pub agree_next : Agree found' after
@@ -255,15 +257,21 @@ module _ (class_of : List ℕ) (clocked : List Bool) (relations : List Relation)
       let held_c : held c ≡ None = first_none (held c) (if_clocked (marked clocked c) (offers c)) none in
       ⊎_elim
       (λ h.
-          let place_d = place d h in
-          let bound : d < length lists = subst (λ y. y < length lists) place_d.2 (below place_d.0 0 place_d.1) in
-          let apart : c ≡ d → ⊥ = λ e. none_some (sym none ∙ ap after e ∙ has) in
-          (d, h, (r, subst (λ l. Contains l r) (sym (t d bound)) (contains_filter (touches (class_in class_of) d) relations r within (between_touches (class_in class_of) c d r between)),
-          end_between (class_in class_of) c d r between apart)))
+      let place_d = place d h in
+      let bound : d < length lists = subst (λ y. y < length lists) place_d.2 (below place_d.0 0 place_d.1) in
+      let apart : c ≡ d → ⊥ = λ e. none_some (sym none ∙ ap after e ∙ has) in (
+        d,
+        h,
+        (
+          r,
+          subst (λ l. Contains l r) (sym (t d bound)) (contains_filter (touches (class_in class_of) d) relations r within (between_touches (class_in class_of) c d r between)),
+          end_between (class_in class_of) c d r between apart,
+        ),
+      ))
       (λ out.
-          let o = offered_some (class_in class_of) held relations r c d x within between (sym (old_after d out) ∙ has) held_c in
-          let got : after c ≡ Some o.0 = first_of_none (held c) (if_clocked (marked clocked c) (offers c)) held_c ∙ clocked_is (marked clocked c) (offers c) new.0 ∙ o.1 in
-          absurd (none_some (sym none ∙ got)))
+      let o = offered_some (class_in class_of) held relations r c d x within between (sym (old_after d out) ∙ has) held_c in
+      let got : after c ≡ Some o.0 = first_of_none (held c) (if_clocked (marked clocked c) (offers c)) held_c ∙ clocked_is (marked clocked c) (offers c) new.0 ∙ o.1 in
+      absurd (none_some (sym none ∙ got)))
       (queued_or_not d)
 
   pub stands_next : Stands class_of clocked relations lists after found' marks' next
@@ -283,17 +291,19 @@ module _ (class_of : List ℕ) (clocked : List Bool) (relations : List Relation)
     where
       listed : (c : ℕ) → found_of found' c ≡ Lost → Contains next c
       listed c e = ⊎_elim (λ h. h) (λ out. absurd (none c (sym (old_stays c out) ∙ e))) (queued_or_not c)
+
       new_exact : (c : ℕ) → Contains next c → IsExact (found_of found' c) (offers c)
       new_exact c h = ⊎_elim
           (λ (k, within, is, f).
-              let bound : c < length lists = subst (λ x. x < length lists) is (below k 0 within) in
-              let at : IsExact (found_of news k) (offered (class_in class_of) held (slice_index_or lists c []) c) =
-                  subst (λ x. IsExact (found_of news k) (offered (class_in class_of) held (slice_index_or lists x []) x)) is (exact k within) in
-              let all : offered (class_in class_of) held (slice_index_or lists c []) c ≡ offers c =
-                  ap (λ l. offered (class_in class_of) held l c) (t c bound) ∙ offered_touching (class_in class_of) held relations c in
-              subst (λ x. IsExact x (offers c)) (sym f) (subst (λ o. IsExact (found_of news k) o) all at))
+          let bound : c < length lists = subst (λ x. x < length lists) is (below k 0 within) in
+          let at : IsExact (found_of news k) (offered (class_in class_of) held (slice_index_or lists c []) c) =
+          subst (λ x. IsExact (found_of news k) (offered (class_in class_of) held (slice_index_or lists x []) x)) is (exact k within) in
+          let all : offered (class_in class_of) held (slice_index_or lists c []) c ≡ offers c =
+          ap (λ l. offered (class_in class_of) held l c) (t c bound) ∙ offered_touching (class_in class_of) held relations c in
+          subst (λ x. IsExact x (offers c)) (sym f) (subst (λ o. IsExact (found_of news k) o) all at))
           (λ (none, f). let p = place c h in absurd (none p.0 p.1 p.2))
           (m c)
+
       fine_at : (fs : List Found) → All IsFineFound fs → (c : ℕ) → IsFineFound (found_of fs c)
       fine_at [] h c = tt
       fine_at (f ∷ fs) h zero = h 0 f (omega arith)
@@ -361,6 +371,7 @@ settles class_of clocked relations lists held found marks last empty rounds s lo
   where
     now : Held
     now = after_more (said_by class_of clocked relations) held rounds
+
     still : (c : ℕ) → ((p : Progression) × (now c ≡ Some p)) ⊎ (now c ≡ None) → ((p : Progression) × (following (said_by class_of clocked relations) now c ≡ Some p)) ⊎ (following (said_by class_of clocked relations) now c ≡ None)
         → following (said_by class_of clocked relations) now c ≡ now c
     still c (inl (p, e)) o = first_of_some (now c) (if_clocked (marked clocked c) (offered (class_in class_of) now relations c)) p e
@@ -389,7 +400,13 @@ stands_start class_of clocked relations lists held found marks first agree marks
       let there : Contains first d = (first_is d).1 ((marks_are d).1 (kept_is (found_of found d) (held d) x has (agree d))) in
       let apart : c ≡ d → ⊥ = λ e. none_some (sym none ∙ ap held e ∙ has) in
       let end = All-contains (HasEnds class_of) relations r ends within in
-      let bound : d < length lists = ⊎_elim (λ e. subst (λ y. y < length lists) e.1 (classes r.argument 0 end.1)) (λ e. subst (λ y. y < length lists) e.1 (classes r.result 0 end.0)) between.ends in
-      (d, there, (r, subst (λ l. Contains l r) (sym (touching d bound)) (contains_filter (touches (class_in class_of) d) relations r within (between_touches (class_in class_of) c d r between)),
-      end_between (class_in class_of) c d r between apart));
+      let bound : d < length lists = ⊎_elim (λ e. subst (λ y. y < length lists) e.1 (classes r.argument 0 end.1)) (λ e. subst (λ y. y < length lists) e.1 (classes r.result 0 end.0)) between.ends in (
+        d,
+        there,
+        (
+          r,
+          subst (λ l. Contains l r) (sym (touching d bound)) (contains_filter (touches (class_in class_of) d) relations r within (between_touches (class_in class_of) c d r between)),
+          end_between (class_in class_of) c d r between apart,
+        ),
+      );
 }

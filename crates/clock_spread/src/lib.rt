@@ -2,13 +2,13 @@
 #![tactic(auto)]
 
 mod least;
+mod offers;
 mod onward;
 mod queue;
-mod offers;
 mod start;
 mod turn;
 
 pub use least::lesser;
-pub use onward::{are_same, convert, is_related};
 pub use offers::{Found, is_factor_given};
+pub use onward::{are_same, convert, is_related};
 pub use start::spread;

@@ -8,7 +8,12 @@ use std::alloc::{AllocError, Global};
 use sync_values::List;
 
 /// Queues a class, where it is clocked and was not queued.
-fn add(next: &mut Vec<u32>, marks: &mut [bool], clocked: &[bool], class: u32) -> Result<(), AllocError>
+fn add(
+    next: &mut Vec<u32>,
+    marks: &mut [bool],
+    clocked: &[bool],
+    class: u32,
+) -> Result<(), AllocError>
     requires class { class < length marks.old }
     requires clocked { length clocked.now ≡ length marks.old }
     ensures { OnOk result (Queues (λ c. c ≡ class) clocked.now next.old.items marks.old next.new.items marks.new) }

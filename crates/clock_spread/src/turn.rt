@@ -8,8 +8,8 @@ ghost use Rattle.clock_spread.specs.Turn.{Commits, AreTouching, AreProper, AreLo
 ghost use Rattle.clock_spread.specs.Least.{IsLeastOf, IsNumberIn};
 
 use crate::least::lesser;
-use crate::queue::candidates;
 use crate::offers::{Found, take};
+use crate::queue::candidates;
 use clock_terms::Relation;
 use std::alloc::{AllocError, Global};
 use sync_values::List;
@@ -36,12 +36,7 @@ fn taken(
 {
     let mut news = Vec::new(alloc);
     for class in next {
-        news.push(take(
-            found,
-            lists[*class as usize].as_slice(),
-            class_of,
-            *class,
-        ))?;
+        news.push(take(found, lists[*class as usize].as_slice(), class_of, *class))?;
     }
     Ok(news)
 }

@@ -47,8 +47,7 @@ pub source_some : (class_of : List ℕ) (found : List Found) (held : Held) (give
 source_some class_of found held given source g b agree proper is own e test =
     let c = class_in class_of given.node in
     let (p, at, same) = a_grid (found_of found c) (held c) g e (agree c) in
-    let one : class_in class_of source.node ≡ c = ap (λ n. class_in class_of n) (sym is.node) in
-    (
+    let one : class_in class_of source.node ≡ c = ap (λ n. class_in class_of n) (sym is.node) in (
       λ f. λ (q, at_q, together).
           let equal : q ≡ p = some_same (sym at_q ∙ ap held one ∙ at) in
           let proper_q : IsProper q = proper (class_in class_of source.node) q at_q in
@@ -67,6 +66,7 @@ source_some class_of found held given source g b agree proper is own e test =
   where
     clash : true ≡ false → ⊥
     clash e = absurd cc
+
     by : (c : Bool) → b ≡ c → (b ≡ true → ⊥) → b ≡ false
     by true e h = absurd (h e)
     by false e h = e
@@ -97,20 +97,25 @@ relation_some class_of found held r g h b agree proper given e f test =
     let (p, at_p, same_p) = a_grid (found_of found c) (held c) g e (agree c) in
     let (v, at_v, same_v) = a_grid (found_of found d) (held d) h f (agree d) in
     let proper_p : IsProper p = proper c p at_p in
-    let proper_v : IsProper v = proper d v at_v in
-    (
+    let proper_v : IsProper v = proper d v at_v in (
       λ isnt. λ (y, u, at_y, at_u, asks).
           let is_p : y ≡ p = some_same (sym at_y ∙ at_p) in
           let is_v : u ≡ v = some_same (sym at_u ∙ at_v) in
           let here : Asks r.by p v = subst (λ x. Asks r.by x v) is_p (subst (λ x. Asks r.by y x) is_v asks) in
           clash (sym (test.1 (asks_same r.by p v (progression_of_grid g) (progression_of_grid h) given proper_p proper_v (grid_proper g) (grid_proper h)
-              (same_sym (progression_of_grid g) p same_p) (same_sym (progression_of_grid h) v same_v) here)) ∙ isnt),
-      λ broken. by b refl (λ t. broken (p, v, at_p, at_v,
-          asks_same r.by (progression_of_grid g) (progression_of_grid h) p v given (grid_proper g) (grid_proper h) proper_p proper_v same_p same_v (test.0 t))),
+          (same_sym (progression_of_grid g) p same_p) (same_sym (progression_of_grid h) v same_v) here)) ∙ isnt),
+      λ broken. by b refl (λ t. broken (
+        p,
+        v,
+        at_p,
+        at_v,
+        asks_same r.by (progression_of_grid g) (progression_of_grid h) p v given (grid_proper g) (grid_proper h) proper_p proper_v same_p same_v (test.0 t),
+      )),
     )
   where
     clash : true ≡ false → ⊥
     clash e = absurd cc
+
     by : (c : Bool) → b ≡ c → (b ≡ true → ⊥) → b ≡ false
     by true e h = absurd (h e)
     by false e h = e

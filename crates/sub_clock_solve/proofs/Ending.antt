@@ -43,7 +43,7 @@ take_take (suc m) (suc k) (g ∷ gs) le = ap (λ l. g ∷ l) (take_take m k gs (
 first_below : (m k : ℕ) (gs : List Grid) → m ≤ k → HasMultipleBelow (2 ^ 40) (denominators (take k gs)) → HasMultipleBelow (2 ^ 40) (denominators (take m gs))
 first_below m k gs le h =
     let parts : denominators (take k gs) ≡ denominators (take m gs) ++ denominators (drop m (take k gs)) =
-        ap denominators (sym (take_drop m (take k gs))) ∙ den_append (take m (take k gs)) (drop m (take k gs)) ∙ ap (λ l. denominators l ++ denominators (drop m (take k gs))) (take_take m k gs le) in
+    ap denominators (sym (take_drop m (take k gs))) ∙ den_append (take m (take k gs)) (drop m (take k gs)) ∙ ap (λ l. denominators l ++ denominators (drop m (take k gs))) (take_take m k gs le) in
     fewer_below (2 ^ 40) (denominators (take m gs)) (denominators (drop m (take k gs))) (subst (λ l. HasMultipleBelow (2 ^ 40) l) parts h)
 
 fine_at : (fs : List Found) → All IsFineFound fs → (c : ℕ) → IsFineFound (found_of fs c)
@@ -108,6 +108,7 @@ module _ (terms : Terms) (classes : Classes) (found : List Found) (s : IsSpread 
     where
       inside : c < length found
       inside = let e = s.same_length in omega (arith, e, within)
+
       more : (b : Bool) → marked classes.clocked c ≡ b → b ≡ true
       more true e = refl
       more false e = absurd (past (subst (λ l. HasMultipleBelow (2 ^ 40) (denominators l))
@@ -117,12 +118,16 @@ module _ (terms : Terms) (classes : Classes) (found : List Found) (s : IsSpread 
           nothing Not = append-nil (kept_grids (take c found) (take c classes.clocked))
           nothing (Kept g) = append-nil (kept_grids (take c found) (take c classes.clocked))
           nothing Lost = append-nil (kept_grids (take c found) (take c classes.clocked))
+
       is_clocked : marked classes.clocked c ≡ true
       is_clocked = more (marked classes.clocked c) refl
+
       next : place_of classes (c + 1) ≡ place_of classes c + 1
       next = count_by_more_yes (λ b. b) classes.clocked c false within is_clocked
+
       at_place : IsGrainPast grids (place_of classes c)
       at_place h = past (subst (λ l. HasMultipleBelow (2 ^ 40) (denominators l)) (sym (take_place (c + 1) ∙ ap (λ n. take n grids) next)) h)
+
       earlier : (m : ℕ) → m < place_of classes c → IsGrainPast grids m → ⊥
       earlier m lt h = h (first_below (m + 1) (place_of classes c) grids (omega (arith, lt)) (subst (λ l. HasMultipleBelow (2 ^ 40) (denominators l)) (take_place c) before))
 

@@ -48,25 +48,34 @@ takes_none said none zero c (p, takes, over) = none_some (sym (never said none 0
 takes_none said none (suc n) c (p, takes, over) = none_some (sym (never said none (suc n) c) ∙ takes.1)
 
 pub no_classes : (terms : Terms) (classes : Classes) → classes.clocked ≡ [] → FitTogether terms classes → IsSolution terms classes []
-no_classes terms classes empty fit = ((λ c. None), record {
+no_classes terms classes empty fit = (
+  (λ c. None),
+  record {
     gotten = record { clocked = λ c t. absurd (clash (sym t ∙ none c)); unclocked = λ c f. refl };
     none_too_fine = takes_none (said_of terms classes) none;
     are_grids = record { same_length = ap (λ l. count_by (λ b. b) l) (sym empty); each = λ c t. absurd (clash (sym t ∙ none c)) };
-  }, record { multiple = 1; positive = omega arith; below = omega arith; divided = tt },
+  },
+  record { multiple = 1; positive = omega arith; below = omega arith; divided = tt },
   λ e. ⊎_elim
       (λ (s, within, is, fails). nothing (subst (λ l. Contains (sources_of l) s) constructors within))
-      (λ (r, within, is, fails). nothing (subst (λ l. Contains l r) relations within)))
+      (λ (r, within, is, fails). nothing (subst (λ l. Contains l r) relations within)),
+)
   where
     none : (c : ℕ) → slice_index_or classes.clocked c false ≡ false
     none c = ap (λ l. slice_index_or l c false) empty
+
     clash : true ≡ false → ⊥
     clash e = absurd cc
+
     size : (n : ℕ) → n < length classes.clocked → ⊥
     size n lt = let e = ap length empty in absurd (omega (arith, e, lt))
+
     constructors : terms.constructors ≡ []
     constructors = no_element (λ k. HasClass classes k.node) terms.constructors (λ k h. size _ h.class) fit.nodes
+
     relations : terms.relations ≡ []
     relations = no_element (λ r. HasClass classes r.result × HasClass classes r.argument) terms.relations (λ r h. size _ h.0.class) fit.ends
+
     nothing : {X : Type 0} {x : X} → Contains [] x → ⊥
     nothing (k, within, is) = absurd (omega (arith, within))
 

@@ -87,6 +87,7 @@ kept_more found clocked i d b p q = ap (λ n. kept_grids (take n found) (take n 
         → kept_grids (take (suc i) fs) (take (suc i) cs) ≡ kept_grids (take i fs) (take i cs) ++ kept_of (get_or cs i b) (get_or fs i d)
         → kept_of c f ++ kept_grids (take (suc i) fs) (take (suc i) cs) ≡ (kept_of c f ++ kept_grids (take i fs) (take i cs)) ++ kept_of (get_or cs i b) (get_or fs i d)
     step f c fs cs i again = ap (λ l. kept_of c f ++ l) again ∙ sym (append_assoc (kept_of c f) (kept_grids (take i fs) (take i cs)) (kept_of (get_or cs i b) (get_or fs i d)))
+
     by : (fs : List Found) (cs : List Bool) (i : ℕ) → i < length fs → i < length cs
         → kept_grids (take (suc i) fs) (take (suc i) cs) ≡ kept_grids (take i fs) (take i cs) ++ kept_of (get_or cs i b) (get_or fs i d)
     by [] cs i p q = absurd (omega (arith, p))

@@ -211,4 +211,3 @@ proper_by AtSite k site rest p h = by
 pub sources_proper : (site : ℕ) (ks : List Constructor) → All (λ k. IsGivenClock k.clock) ks → All (λ s. IsProper s.clock) (sources_from site ks)
 sources_proper site [] h = λ k d lt. absurd (omega (arith, lt))
 sources_proper site (k ∷ ks) h = proper_by (kind_of k.clock) k site (λ n. sources_from n ks) (All-head (λ k. IsGivenClock k.clock) k ks h) (λ n. sources_proper n ks (All-tail (λ k. IsGivenClock k.clock) k ks h))
-

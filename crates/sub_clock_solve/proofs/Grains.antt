@@ -33,7 +33,6 @@ grain_below limit ns m g = (
   λ h. record { multiple = m; positive = g.positive; below = h; divided = g.divided },
 )
 
-
 all_first : (ns ms : List ℕ) (m : ℕ) → AllDivide (ns ++ ms) m → AllDivide ns m
 all_first [] ms m h = tt
 all_first (n ∷ ns) ms m h = (h.0, all_first ns ms m h.1)

@@ -90,6 +90,7 @@ grids_once classes held gs hs proper a b = by gs hs (a.same_length ∙ sym b.sam
         let equal : q ≡ p = some_same (sym at_q ∙ at_p) in
         let one : g ≡ h = grid_once g h p (proper c p at_p) for_g (subst (λ x. StandsFor h x) equal for_h) in
         (g, ap (λ n. slice_get gs n) (sym is) ∙ at_g, ap (λ n. slice_get hs n) (sym is) ∙ at_h ∙ ap Some (sym one))
+
     by : (xs ys : List Grid) → length xs ≡ length ys → ((k : ℕ) → k < length xs → (g : Grid) × (slice_get xs k ≡ Some g) × (slice_get ys k ≡ Some g)) → xs ≡ ys
     by [] [] e h = refl
     by [] (y ∷ ys) e h = absurd (omega (arith, e))

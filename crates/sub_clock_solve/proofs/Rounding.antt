@@ -151,17 +151,19 @@ module _ (terms : Terms) (classes : Classes) (found : List Found) (lost : Option
   none_too_fine h (suc n) c takes = ⊎_elim
       (λ lt. h n lt c (takes_newly n c takes))
       (λ le. let (p, (none, new), over) = takes in
-          let e : n ≡ (n - rounds) + rounds = omega (arith, le) in
-          later_none (n - rounds) c p (subst (λ m. after_round said m c ≡ None) e none) (subst (λ m. after_round said (suc m) c ≡ Some p) e new))
+      let e : n ≡ (n - rounds) + rounds = omega (arith, le) in
+      later_none (n - rounds) c p (subst (λ m. after_round said m c ≡ None) e none) (subst (λ m. after_round said (suc m) c ≡ Some p) e new))
       (less_or n rounds)
     where
       less_or : (n m : ℕ) → (n < m) ⊎ (m ≤ n)
       less_or n m = grind arith
 
   pub first_too_fine : (c : ℕ) → IsFirstLost plain start rounds (Some c) → IsFirstTooFine said c
-  first_too_fine c (m, within, before, least) = (suc m,
-      ((c, newly_takes m c least.0), λ n lt. earlier n lt),
-      (newly_takes m c least.0, λ d lt takes. least.1 d lt (takes_newly m d takes)))
+  first_too_fine c (m, within, before, least) = (
+    suc m,
+    ((c, newly_takes m c least.0), λ n lt. earlier n lt),
+    (newly_takes m c least.0, λ d lt takes. least.1 d lt (takes_newly m d takes)),
+  )
     where
       earlier : (n : ℕ) → n < suc m → IsAnyTooFine said n → ⊥
       earlier zero lt (d, takes) = none_at_start d takes

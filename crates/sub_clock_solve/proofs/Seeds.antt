@@ -75,8 +75,8 @@ seed_agree class_of clocked sources givens i d old new are within seeds agree c 
     let same : class_in class_of one.node ≡ class = ap (λ n. class_in class_of n) (sym source.node) in
     let step = seeded_agrees (class == c) (marked clocked c) (found_of old c) (seeded (class_in class_of) (take i sources) c) (get_or givens i d).grid one.clock source.grid (agree c) in
     let all : seeded (class_in class_of) (take (i + 1) sources) c ≡ first_some (seeded (class_in class_of) (take i sources) c) (if class == c then Some one.clock else None) =
-        ap (λ l. seeded (class_in class_of) l c) (take_more sources i e inside) ∙ seeded_more (class_in class_of) (take i sources) one c
-        ∙ ap (λ k. first_some (seeded (class_in class_of) (take i sources) c) (if k == c then Some one.clock else None)) same in
+    ap (λ l. seeded (class_in class_of) l c) (take_more sources i e inside) ∙ seeded_more (class_in class_of) (take i sources) one c
+    ∙ ap (λ k. first_some (seeded (class_in class_of) (take i sources) c) (if k == c then Some one.clock else None)) same in
     subst (λ f. Agrees f (start_of class_of clocked (take (i + 1) sources) c)) (sym (seeds c))
     (subst (λ o. Agrees (if class == c then seeded_at (marked clocked c) (found_of old c) (get_or givens i d).grid else found_of old c) (if_clocked (marked clocked c) o)) (sym all) step)
 

@@ -83,8 +83,8 @@ pub(crate) fn first_coarse(found: &[Found], clocked: &[bool], count: u32) -> Opt
     requires fine { All IsFineFound found.now }
     ensures { MatchOption result (HasMultipleBelow (2 ^ 40) (denominators (kept_grids found.now clocked.now)))
         (λ c. (c < length clocked.now)
-            × HasMultipleBelow (2 ^ 40) (denominators (kept_grids (take c found.now) (take c clocked.now)))
-            × (HasMultipleBelow (2 ^ 40) (denominators (kept_grids (take (c + 1) found.now) (take (c + 1) clocked.now))) → ⊥)) }
+        × HasMultipleBelow (2 ^ 40) (denominators (kept_grids (take c found.now) (take c clocked.now)))
+        × (HasMultipleBelow (2 ^ 40) (denominators (kept_grids (take (c + 1) found.now) (take (c + 1) clocked.now))) → ⊥)) }
 {
     let mut grain = 1;
     for class in 0..count {

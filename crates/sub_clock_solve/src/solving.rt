@@ -113,7 +113,13 @@ fn solve_some(alloc: Global, terms: &Terms, classes: &Classes) -> Result<Grids, 
     let givens = given_clocks(alloc, terms.constructors.as_slice())?;
     let relations = terms.relations.as_slice();
     let class_of = classes.class_of.as_slice();
-    let all = spread_all(alloc, &givens, relations, class_of, classes.clocked.as_slice())?;
+    let all = spread_all(
+        alloc,
+        &givens,
+        relations,
+        class_of,
+        classes.clocked.as_slice(),
+    )?;
     judged(alloc, &all, &givens, terms, classes)
 }
 

@@ -11,8 +11,7 @@ returns-in-Some c =
     let y = progression_of_grid c.args.derived in
     let u = progression_of_grid c.args.argument in
     let g = progression_of_grid c.in-Some.grid in
-    let p = converted_proper c.args.by u c.requires.given (grid_proper c.args.argument) in
-    (
+    let p = converted_proper c.args.by u c.requires.given (grid_proper c.args.argument) in (
       λ e. converted_asks c.args.by y u c.requires.given (grid_proper c.args.derived) (grid_proper c.args.argument)
           (same_trans y g (converted c.args.by u) (grid_proper c.in-Some.grid) (same_sym g y (c.are_same.ensures.0 e)) c.in-Some.ensures.value),
       λ h. c.are_same.ensures.1 (same_trans g (converted c.args.by u) y p c.in-Some.ensures.value
@@ -23,6 +22,8 @@ pub returns-in-None : goal.returns-in-None
 returns-in-None c =
     let y = progression_of_grid c.args.derived in
     let u = progression_of_grid c.args.argument in
-    let p = converted_proper c.args.by u c.requires.given (grid_proper c.args.argument) in
-    (λ e. absurd cc, λ h. absurd (fine_not_too_fine c.args.derived (converted c.args.by u) p
-    (asks_converted c.args.by y u c.requires.given (grid_proper c.args.derived) (grid_proper c.args.argument) h) c.requires.derived (c.in-None.ensures.none.0 refl)))
+    let p = converted_proper c.args.by u c.requires.given (grid_proper c.args.argument) in (
+      λ e. absurd cc,
+      λ h. absurd (fine_not_too_fine c.args.derived (converted c.args.by u) p
+          (asks_converted c.args.by y u c.requires.given (grid_proper c.args.derived) (grid_proper c.args.argument) h) c.requires.derived (c.in-None.ensures.none.0 refl)),
+    )

@@ -22,13 +22,17 @@ returns-then-is_fine-clause-fine c = record {
 
 pub returns-then-is_fine-clause-none : goal.returns-then-is_fine-clause-none
 returns-then-is_fine-clause-none c =
-    let at = moved_at c.args.grid.start c.args.grid.period c.in_ok-start.start.start c.args.grid.negative c.args.back c.in_ok-start.start.negative c.args.k c.args.r c.in_ok-start.ensures.size c.in_ok-start.ensures.sign in
-    (λ e. absurd cc, λ h. absurd (not_past (2 ^ 40) c.in_ok-start.start.negative c.in_ok-start.start.start
-    (moved_start c.args.grid.start c.args.grid.negative c.args.grid.period c.args.k c.args.r c.args.back)
-    (moved_den_pos c.args.grid.start c.args.grid.period c.args.grid.negative c.args.back c.args.k c.args.r c.requires.given) at (c.if-is_fine.ensures.0 refl) h))
+    let at = moved_at c.args.grid.start c.args.grid.period c.in_ok-start.start.start c.args.grid.negative c.args.back c.in_ok-start.start.negative c.args.k c.args.r c.in_ok-start.ensures.size c.in_ok-start.ensures.sign in (
+      λ e. absurd cc,
+      λ h. absurd (not_past (2 ^ 40) c.in_ok-start.start.negative c.in_ok-start.start.start
+          (moved_start c.args.grid.start c.args.grid.negative c.args.grid.period c.args.k c.args.r c.args.back)
+          (moved_den_pos c.args.grid.start c.args.grid.period c.args.grid.negative c.args.back c.args.k c.args.r c.requires.given) at (c.if-is_fine.ensures.0 refl) h),
+    )
 
 pub returns-else-is_fine-clause-none : goal.returns-else-is_fine-clause-none
 returns-else-is_fine-clause-none c =
-    let at = moved_at c.args.grid.start c.args.grid.period c.in_ok-start.start.start c.args.grid.negative c.args.back c.in_ok-start.start.negative c.args.k c.args.r c.in_ok-start.ensures.size c.in_ok-start.ensures.sign in
-    (λ _. past (2 ^ 40) c.in_ok-start.start.negative c.in_ok-start.start.start
-    (moved_start c.args.grid.start c.args.grid.negative c.args.grid.period c.args.k c.args.r c.args.back) at (λ below. absurd (search rules)), λ _. refl)
+    let at = moved_at c.args.grid.start c.args.grid.period c.in_ok-start.start.start c.args.grid.negative c.args.back c.in_ok-start.start.negative c.args.k c.args.r c.in_ok-start.ensures.size c.in_ok-start.ensures.sign in (
+      λ _. past (2 ^ 40) c.in_ok-start.start.negative c.in_ok-start.start.start
+          (moved_start c.args.grid.start c.args.grid.negative c.args.grid.period c.args.k c.args.r c.args.back) at (λ below. absurd (search rules)),
+      λ _. refl,
+    )

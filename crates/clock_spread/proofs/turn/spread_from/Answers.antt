@@ -19,10 +19,12 @@ rounds-preserved c =
           let before = after_more said held n in
           let at_last = subst (λ last. Stands c.args.class_of.now c.args.clocked.now relations c.args.lists.now before c.rounds.found c.rounds.marks last) (sym items) stands in
           let are : c.rounds.lost ≡ None → AreLost said before c.turn_of.new.found c.in_ok-last.last.items = λ e. c.in_ok-last.ensures.lost relations before touching at_last (more_proper said held proper n) (kept e) in
-          let next_lost : IsNextLost c.rounds.lost c.turn_of.new.found c.in_ok-last.last.items c.first_lost-lost.result = subst (λ l. IsNextLost c.rounds.lost c.turn_of.new.found l c.first_lost-lost.result) next c.first_lost-lost.ensures in
-          (suc n, c.in_ok-last.ensures.stands relations before touching at_last,
-          first_more said held n c.rounds.lost c.first_lost-lost.result c.turn_of.new.found c.in_ok-last.last.items first are next_lost,
-          none_more said held n c.rounds.lost c.first_lost-lost.result c.turn_of.new.found c.in_ok-last.last.items are next_lost);
+          let next_lost : IsNextLost c.rounds.lost c.turn_of.new.found c.in_ok-last.last.items c.first_lost-lost.result = subst (λ l. IsNextLost c.rounds.lost c.turn_of.new.found l c.first_lost-lost.result) next c.first_lost-lost.ensures in (
+            suc n,
+            c.in_ok-last.ensures.stands relations before touching at_last,
+            first_more said held n c.rounds.lost c.first_lost-lost.result c.turn_of.new.found c.in_ok-last.last.items first are next_lost,
+            none_more said held n c.rounds.lost c.first_lost-lost.result c.turn_of.new.found c.in_ok-last.last.items are next_lost,
+          );
     }
 
 pub returns-clause-settles : goal.returns-clause-settles

@@ -15,7 +15,7 @@ invariant-rounds l = record {
   stands : (relations : List Relation) (held : Held) → AreTouching l.fn.class_of relations l.fn.lists
       → Stands l.fn.class_of l.fn.clocked relations l.fn.lists held l.fn.found l.fn.marks l.fn.first.items → AreProper held → NoneLost l.fn.found
       → (n : ℕ) × Stands l.fn.class_of l.fn.clocked relations l.fn.lists (after_more (said_by l.fn.class_of l.fn.clocked relations) held n) l.found l.marks l.last.items
-        × IsFirstLost (said_by l.fn.class_of l.fn.clocked relations) held n l.lost × (l.lost ≡ None → NoneLost l.found);
+      × IsFirstLost (said_by l.fn.class_of l.fn.clocked relations) held n l.lost × (l.lost ≡ None → NoneLost l.found);
 }
 
 abbrev pub decreases-rounds : goal.decreases-rounds

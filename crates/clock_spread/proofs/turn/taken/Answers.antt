@@ -9,5 +9,5 @@ take-requires-clause-touches c =
     let class = get_or c.args.next.now c.loop-class.class-index 0 in
     let inside : class < length c.args.lists.now = c.requires.next c.loop-class.class-index 0 within in
     let list : c.as_slice.result.now ≡ slice_index_or c.args.lists.now class [] =
-        c.as_slice.ensures ∙ c.index-lists-class.is ∙ get_or_default c.args.lists.now class c.index-lists-class.result [] inside in
+    c.as_slice.ensures ∙ c.index-lists-class.is ∙ get_or_default c.args.lists.now class c.index-lists-class.result [] inside in
     subst (λ l. All (λ r. touches (class_in c.args.class_of.now) class r ≡ true) l) (sym list) (c.requires.touches class inside)

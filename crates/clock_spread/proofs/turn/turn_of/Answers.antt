@@ -32,7 +32,7 @@ returns-clause-stands c = λ relations held touching stands.
     let third : c.deref-3.result.now ≡ c.in_ok-news.news.items = search rules in
     let count : length c.args.found.now ≡ length c.args.lists.now = omega (arith, c.requires.lists) in
     let below = next_below c.args.class_of.now c.args.lists.now c.args.last.now c.args.clocked.now c.args.marks.now c.in_ok-next.next.items c.candidates.new.marks (length c.args.lists.now)
-        c.in_ok-next.ensures c.requires.ends (subst (λ n. All (λ x. x < n) c.args.class_of.now) count c.requires.classes) c.requires.last in
+    c.in_ok-next.ensures c.requires.ends (subst (λ n. All (λ x. x < n) c.args.class_of.now) count c.requires.classes) c.requires.last in
     let takes = rw first at (c.in_ok-news.ensures.agrees held stands.agree) in
     let commits = rw (second, third) at c.commit.ensures.commits in
     stands_next c.args.class_of.now c.args.clocked.now relations c.args.lists.now held c.args.found.now c.commit.new.found c.in_ok-news.news.items c.args.marks.now c.candidates.new.marks c.args.last.now c.in_ok-next.next.items
@@ -51,7 +51,7 @@ returns-clause-lost c = λ relations held touching stands proper none.
     let third : c.deref-3.result.now ≡ c.in_ok-news.news.items = search rules in
     let count : length c.args.found.now ≡ length c.args.lists.now = omega (arith, c.requires.lists) in
     let below = next_below c.args.class_of.now c.args.lists.now c.args.last.now c.args.clocked.now c.args.marks.now c.in_ok-next.next.items c.candidates.new.marks (length c.args.lists.now)
-        c.in_ok-next.ensures c.requires.ends (subst (λ n. All (λ x. x < n) c.args.class_of.now) count c.requires.classes) c.requires.last in
+    c.in_ok-next.ensures c.requires.ends (subst (λ n. All (λ x. x < n) c.args.class_of.now) count c.requires.classes) c.requires.last in
     let takes = rw first at (c.in_ok-news.ensures.agrees held stands.agree) in
     let exact = rw first at (c.in_ok-news.ensures.exact none held stands.agree) in
     let commits = rw (second, third) at c.commit.ensures.commits in

@@ -18,12 +18,12 @@ loop-class-preserved c =
     let at : c.index-found-class.result ≡ found_of found i = c.index-found-class.is ∙ get_or_default found i c.index-found-class.result Not inside in
     let more = kept_more found clocked i Not false inside within in
     elim c.if-clocked-class.branch [
-      then-clocked-class+in_ok-keep w ↦
-        let is : marked c.args.clocked.now c.loop-class.class ≡ true = search rules in
-        let grids : c.if-clocked-class.grids ≡ c.loop-class.grids ++ kept_of true c.index-found-class.result = search rules in
-        grids ∙ ap₂ (λ l f. l ++ kept_of true f) c.loop-class.invariant at ∙ sym (more ∙ ap (λ b. kept_grids (take i found) (take i clocked) ++ kept_of b (found_of found i)) is)
-    | else-clocked-class w ↦
-        let is : marked c.args.clocked.now c.loop-class.class ≡ false = search rules in
-        let grids : c.if-clocked-class.grids ≡ c.loop-class.grids = search rules in
-        grids ∙ c.loop-class.invariant ∙ sym (more ∙ ap (λ b. kept_grids (take i found) (take i clocked) ++ kept_of b (found_of found i)) is ∙ kept_false (kept_grids (take i found) (take i clocked)) (found_of found i))
+      | then-clocked-class+in_ok-keep w ↦
+          let is : marked c.args.clocked.now c.loop-class.class ≡ true = search rules in
+          let grids : c.if-clocked-class.grids ≡ c.loop-class.grids ++ kept_of true c.index-found-class.result = search rules in
+          grids ∙ ap₂ (λ l f. l ++ kept_of true f) c.loop-class.invariant at ∙ sym (more ∙ ap (λ b. kept_grids (take i found) (take i clocked) ++ kept_of b (found_of found i)) is)
+      | else-clocked-class w ↦
+          let is : marked c.args.clocked.now c.loop-class.class ≡ false = search rules in
+          let grids : c.if-clocked-class.grids ≡ c.loop-class.grids = search rules in
+          grids ∙ c.loop-class.invariant ∙ sym (more ∙ ap (λ b. kept_grids (take i found) (take i clocked) ++ kept_of b (found_of found i)) is ∙ kept_false (kept_grids (take i found) (take i clocked)) (found_of found i))
     ]

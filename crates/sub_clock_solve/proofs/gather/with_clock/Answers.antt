@@ -12,7 +12,7 @@ returns-in_err-common c = λ ns g.
     let first : IsLcm c.args.grain c.args.grid.period.den m = subst (λ d. IsLcm c.args.grain d m) c.den.ensures lcm in
     let Goal : Option ℕ → Option ℕ → Type 0 = λ o s. MatchOption o (HasMultipleBelow (2 ^ 40) (ns ++ own_denominators s c.args.grid) → ⊥) (λ n. IsGrain (ns ++ own_denominators s c.args.grid) n × (n < 2 ^ 40)) in
     subst (λ s. Goal c.from_residual.result s) (sym none) (subst (λ o. Goal o None) (sym c.from_residual.ensures)
-        (past_first ns c.args.grain c.args.grid.period.den c.args.grid.start.den m c.requires.positive c.args.grid.period.positive g first past))
+    (past_first ns c.args.grain c.args.grid.period.den c.args.grid.start.den m c.requires.positive c.args.grid.period.positive g first past))
 
 pub common-requires-2-clause-grain : goal.common-requires-2-clause-grain
 common-requires-2-clause-grain c =

@@ -13,7 +13,7 @@ loop-given-preserved c =
     let fine : IsFine (2 ^ 40) given.grid = subst (λ g. IsFine (2 ^ 40) g.grid) (sym c.given-item.is) (c.requires.fine i given within) in
     let seeds : IsSeeded c.args.clocked.now (class_in c.args.class_of.now given.node) given.grid c.loop-given.found c.seed.new.found = c.seed.ensures.seeds in
     let at : IsSeeded c.args.clocked.now (class_in c.args.class_of.now (get_or c.args.givens.now i given).node) (get_or c.args.givens.now i given).grid c.loop-given.found c.seed.new.found =
-        subst (λ g. IsSeeded c.args.clocked.now (class_in c.args.class_of.now g.node) g.grid c.loop-given.found c.seed.new.found) c.given-item.is seeds in
+    subst (λ g. IsSeeded c.args.clocked.now (class_in c.args.class_of.now g.node) g.grid c.loop-given.found c.seed.new.found) c.given-item.is seeds in
     record {
       length = c.seed.ensures.length ∙ c.loop-given.invariant.length;
       fine = seed_fine c.args.clocked.now (class_in c.args.class_of.now given.node) given.grid c.loop-given.found c.seed.new.found fine seeds c.loop-given.invariant.fine;

@@ -15,8 +15,8 @@ pub returns-in-Some : goal.returns-in-Some
 returns-in-Some c =
     let clocked : c.as_slice-clocked.result.now ≡ c.args.classes.now.clocked = search rules in
     let facts = subst (λ l. (c.in-Some.class < length l)
-        × HasMultipleBelow (2 ^ 40) (denominators (kept_grids (take c.in-Some.class c.args.found.now) (take c.in-Some.class l)))
-        × (HasMultipleBelow (2 ^ 40) (denominators (kept_grids (take (c.in-Some.class + 1) c.args.found.now) (take (c.in-Some.class + 1) l))) → ⊥)) clocked (c.in-Some.ensures {u = tt}) in
+    × HasMultipleBelow (2 ^ 40) (denominators (kept_grids (take c.in-Some.class c.args.found.now) (take c.in-Some.class l)))
+    × (HasMultipleBelow (2 ^ 40) (denominators (kept_grids (take (c.in-Some.class + 1) c.args.found.now) (take (c.in-Some.class + 1) l))) → ⊥)) clocked (c.in-Some.ensures {u = tt}) in
     past_at c.args.terms.now c.args.classes.now c.args.found.now c.requires.spread c.requires.known c.in-Some.class facts.0 facts.1 facts.2
 
 pub conflict-requires-clause-nodes : goal.conflict-requires-clause-nodes
@@ -40,9 +40,10 @@ returns-in-Some-conflict c =
     let fails = c.in-Some-conflict.ensures {u = tt} held (sources_of terms.constructors) (final_agree terms classes found None c.requires.spread) (final_proper terms classes found None c.requires.spread) c.requires.givens c.requires.spread.proper in
     let least : IsLeast (FailsAt (said_of terms classes) held) c.in-Some-conflict.equation = rw (class_of, relations) at fails in
     let fine : HasMultipleBelow (2 ^ 40) (denominators (kept_grids found classes.clocked)) = rw clocked at (c.in_default.ensures {u = tt}) in
-    let whole = solved terms classes found c.requires.spread c.requires.known in
-    ((held, grids terms classes found c.requires.spread c.requires.known, whole, fine, least),
-    conflict_none (said_of terms classes) held c.in-Some-conflict.equation c.requires.spread.proper whole.gotten least.0)
+    let whole = solved terms classes found c.requires.spread c.requires.known in (
+      (held, grids terms classes found c.requires.spread c.requires.known, whole, fine, least),
+      conflict_none (said_of terms classes) held c.in-Some-conflict.equation c.requires.spread.proper whole.gotten least.0,
+    )
 
 pub returns : goal.returns
 returns c =

@@ -30,7 +30,7 @@ judged-requires-clause-spread c =
     let sources = sources_of c.args.terms.now.constructors in
     let proper = sources_proper 0 c.args.terms.now.constructors c.requires.clocks in
     let are : AreSources c.deref.result.now (sources_of c.args.terms.now.constructors) =
-        subst (λ g. AreSources g (sources_of c.args.terms.now.constructors)) (sym items) (subst (λ l. AreSources c.in_ok-givens.givens.items (sources_of l)) constructors (c.in_ok-givens.ensures {u = tt})) in
+    subst (λ g. AreSources g (sources_of c.args.terms.now.constructors)) (sym items) (subst (λ l. AreSources c.in_ok-givens.givens.items (sources_of l)) constructors (c.in_ok-givens.ensures {u = tt})) in
     record {
       same_length = search rules;
       fine = c.in_ok-all.ensures.fine;

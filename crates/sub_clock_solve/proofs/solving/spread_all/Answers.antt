@@ -17,7 +17,7 @@ returns-clause-settles c = λ sources are proper.
     let start = start_of c.args.class_of.now c.args.clocked.now sources in
     let size : c.in_ok-found.found.len ≡ length c.spread.new.found = search rules in
     let same : take c.in_ok-found.found.len (c.spread.new.found ++ drop (length c.spread.new.found) c.in_ok-found.found.items) ≡ c.spread.new.found =
-        ap (λ n. take n (c.spread.new.found ++ drop (length c.spread.new.found) c.in_ok-found.found.items)) size ∙ take-append_seam c.spread.new.found (drop (length c.spread.new.found) c.in_ok-found.found.items) in
+    ap (λ n. take n (c.spread.new.found ++ drop (length c.spread.new.found) c.in_ok-found.found.items)) size ∙ take-append_seam c.spread.new.found (drop (length c.spread.new.found) c.in_ok-found.found.items) in
     let settles = c.in_ok-lost.ensures.settles start (subst (λ l. Agree l start) (sym items) (c.in_ok-found.ensures.agree sources are)) (start_proper c.args.class_of.now c.args.clocked.now sources proper)
-        (subst (λ l. NoneLost l) (sym items) c.in_ok-found.ensures.kept) in
+    (subst (λ l. NoneLost l) (sym items) c.in_ok-found.ensures.kept) in
     subst (λ l. Settles (said_by c.args.class_of.now c.args.clocked.now c.args.relations.now) start l c.in_ok-lost.lost) (sym same) settles
