@@ -1,0 +1,13 @@
+pub mod Counting
+pub mod Factors
+pub mod Stable
+pub mod Conditions
+pub mod Lacking
+pub mod Marks
+pub mod Answering
+pub mod Sites
+pub mod Parting
+pub mod Placing
+pub mod Making
+pub mod Whole
+pub mod Ready

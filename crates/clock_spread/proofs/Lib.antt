@@ -1,0 +1,10 @@
+pub mod Sizes
+pub mod Leasts
+pub mod Only
+pub mod Limits
+pub mod Losing
+pub mod Spreading
+pub mod Queueing
+pub mod Turning
+pub mod Starting
+pub mod Worked

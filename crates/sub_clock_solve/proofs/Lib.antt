@@ -1,0 +1,10 @@
+pub mod Grains
+pub mod Gathers
+pub mod Rounding
+pub mod Giving
+pub mod Clashing
+pub mod Ending
+pub mod Seeds
+pub mod Once
+pub mod Rising
+pub mod Fitting
