@@ -1,6 +1,7 @@
 pub mod Fractions
 pub mod Progressions
 pub mod Conversions
+pub mod ClockKinds
 pub mod Mentioned
 pub mod Cutting
 pub mod Leading

@@ -5,6 +5,7 @@ pub mod Clocking
 pub mod Mentions
 pub mod Nodes
 pub mod Said
+pub mod Least
 pub mod Listed
 pub mod Gathered
 pub mod Classing

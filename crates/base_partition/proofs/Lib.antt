@@ -1,0 +1,9 @@
+pub mod Least
+pub mod Places
+pub mod FirstPlaces
+pub mod Summing
+pub mod LeastSecond
+pub mod ClassNumbers
+pub mod ClassesFit
+pub mod Answering
+pub mod Once
