@@ -1,0 +1,6 @@
+pub mod Good
+pub mod Fitting
+pub mod Equations
+pub mod Checked
+pub mod Shown
+pub mod Own
