@@ -1,0 +1,49 @@
+ghost use Rattle.std.specs.Prelude.{◌≡◌};
+
+use std::alloc::{AllocError, AllocFailed};
+
+/// A rule of types and calls.
+#[derive(Clone, Copy, Debug, PartialEq, Eq)]
+pub enum TypeCode {
+    /// Types differ from those that an operator, a call or an equation takes.
+    Y1,
+    /// An argument that must be the name of a component is none; or that of `hold` or of a conversion is an input.
+    Y2,
+    /// An unknown function, or a number of arguments that it does not take.
+    Y3,
+    /// A counter, factor or resolution that is no expression of constants with a value in its range.
+    Y4,
+    /// What the profile leaves out: quotients, powers, `time`, `interval` outside its form, a clause on a Boolean.
+    Y5,
+}
+
+/// Why a model has no types.
+#[derive(Clone, Copy, Debug, PartialEq, Eq)]
+pub enum TypeEnd {
+    /// The first equation that breaks a rule, and the first rule that it breaks.
+    Fault { code: TypeCode, equation: u32 },
+    NoMemory,
+}
+
+impl From<AllocError> for TypeEnd {
+    ghost use Rattle.flat_types.specs.declared.ends.TypeEnd.{TypeEnd};
+
+    ghost from_gives = { λ _ end. end ≡ TypeEnd.NoMemory };
+
+    fn from(_error: AllocError) -> TypeEnd {
+        TypeEnd::NoMemory
+    }
+}
+
+impl<T> From<AllocFailed<T>> for TypeEnd
+where
+    T: Drop,
+{
+    ghost use Rattle.flat_types.specs.declared.ends.TypeEnd.{TypeEnd};
+
+    ghost from_gives = { λ _ end. end ≡ TypeEnd.NoMemory };
+
+    fn from(_error: AllocFailed<T>) -> TypeEnd {
+        TypeEnd::NoMemory
+    }
+}

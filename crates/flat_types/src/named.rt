@@ -1,0 +1,90 @@
+//! Names as parts of an expression, and as arguments.
+ghost use Rattle.std.specs.Prelude.{◌≡◌};
+ghost use Rattle.flat_types.specs.Outcomes as spec;
+
+use crate::ends::TypeCode;
+use crate::outcome::Outcome;
+use flat_model::{ClockExpr, Expr, FlatName, NameKind};
+
+/// The kind of a name.
+pub fn kind_of_name(names: &[FlatName], x: u32) -> Option<NameKind>
+    ensures { result ≡ spec.kind_of_name names.now x }
+{
+    Some(names.get(x as usize)?.kind)
+}
+
+/// Whether a name is an input.
+fn is_input(names: &[FlatName], x: u32) -> bool
+    ensures { result ≡ spec.is_input names.now x }
+{
+    match names.get(x as usize) {
+        Some(name) => name.input,
+        None => false,
+    }
+}
+
+/// The type of a part, where it is an expression.
+pub fn type_of_part(names: &[FlatName], part: &Outcome) -> Option<NameKind>
+    ensures { result ≡ spec.type_of_part names.now part.now }
+{
+    match part {
+        Outcome::Name(x) => match kind_of_name(names, *x)? {
+            NameKind::Clock => None,
+            kind => Some(kind),
+        },
+        Outcome::Valued(_, kind) => Some(*kind),
+        _ => None,
+    }
+}
+
+/// A name that stands bare.
+fn read_as(x: u32, kind: Option<NameKind>) -> Option<(Expr, NameKind)>
+    ensures { result ≡ spec.read_as x kind }
+{
+    match kind? {
+        NameKind::Integer => Some((Expr::Read(x), NameKind::Integer)),
+        NameKind::Boolean => Some((Expr::Read(x), NameKind::Boolean)),
+        NameKind::Clock => None,
+    }
+}
+
+/// A part as an expression with its type.
+pub fn as_value(names: &[FlatName], part: Outcome) -> Option<(Expr, NameKind)>
+    ensures { result ≡ spec.as_value names.now part }
+{
+    match part {
+        Outcome::Name(x) => read_as(x, kind_of_name(names, x)),
+        Outcome::Valued(expr, kind) => Some((expr, kind)),
+        _ => None,
+    }
+}
+
+/// A part as a clock.
+pub fn as_clock(names: &[FlatName], part: Outcome) -> Option<ClockExpr>
+    ensures { result ≡ spec.as_clock names.now part }
+{
+    match part {
+        Outcome::Name(x) => match kind_of_name(names, x) {
+            Some(NameKind::Clock) => Some(ClockExpr::Name(x)),
+            _ => None,
+        },
+        Outcome::Clocked(clock) => Some(clock),
+        _ => None,
+    }
+}
+
+/// A name as an argument, which is told apart from what is no name, and from an input where that is refused.
+pub fn component(names: &[FlatName], refuses_input: bool, part: &Outcome) -> Result<u32, TypeCode>
+    ensures { result ≡ spec.component names.now refuses_input part.now }
+{
+    match part {
+        Outcome::Name(x) => {
+            if refuses_input && is_input(names, *x) {
+                Err(TypeCode::Y2)
+            } else {
+                Ok(*x)
+            }
+        }
+        _ => Err(TypeCode::Y2),
+    }
+}

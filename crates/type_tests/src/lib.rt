@@ -1,0 +1,5 @@
+//! Tests of the types of flat models.
+#![tactic(auto)]
+
+#[cfg(test)]
+mod types;
