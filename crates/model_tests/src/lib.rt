@@ -7,3 +7,4 @@ mod expressions;
 mod orders;
 #[cfg(test)]
 mod orientation;
+mod graphs;
