@@ -1,0 +1,5 @@
+pub mod Code
+pub mod Correct
+pub mod Laws
+pub mod Lines
+pub mod Machine
