@@ -11,5 +11,5 @@ mod machine;
 
 pub use backward::Backward;
 pub use compile::{Constant, Measure, NoCode, Places, Table, emit};
-pub use law::{code_law, lines_law};
+pub use law::{code_law, known_law, lines_law};
 pub use machine::{Instr, Op, Stop, fits, run};
