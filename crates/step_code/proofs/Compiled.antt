@@ -1,12 +1,12 @@
 -- The code of each expression gives its value.
-use Rattle.std.proofs.Common.{◌≡◌, refl, ap, ◌∙◌, sym, subst, ℕ, ◌<◌, ℤ, Bool, true, false, ◌&&◌, List, [], ◌∷◌, ◌++◌, length, map, Option, Some, None}
+use Rattle.std.proofs.Common.{◌≡◌, refl, ap, sym, subst, ℕ, ◌<◌, ℤ, true, false, ◌&&◌, List, [], ◌∷◌, length, map, Some}
 use Rattle.sync_values.specs.declared.value.Value.{Value}
 use Rattle.sync_values.specs.declared.value.Value.TheVariants as value
 use Rattle.flat_model.specs.declared.expression.Expr.{Expr}
 use Rattle.flat_model.specs.declared.clock.ClockExpr.{ClockExpr}
 use Rattle.flat_model.specs.declared.clock.ClockExpr.TheOpen.{Expr-F}
 use Rattle.flat_model.specs.declared.clock.ClockExpr.TheViews.{roll-Expr}
-use Rattle.flat_model.specs.declared.clock.ClockExpr.TheFolds.{fold-Expr, ind-Expr, fold-roll-Expr, map-Expr}
+use Rattle.flat_model.specs.declared.clock.ClockExpr.TheFolds.{ind-Expr, fold-roll-Expr, map-Expr}
 use Rattle.flat_model.specs.Operators.{Answer, Is, Fails, Absent, relation, negated, inverted, chosen, read}
 use Rattle.flat_model.specs.Operators as Operators
 use Rattle.flat_model.specs.Functions.{called}
@@ -14,9 +14,8 @@ use Rattle.flat_model.specs.Views.{Views, before}
 use Rattle.flat_model.specs.Meaning.{Meaning, meaning_of_level, seen_by, whole_of, value_of}
 use Rattle.sync_values.specs.Arithmetic.{fitted}
 use Rattle.step_code.specs.declared.machine.Op.TheVariants as op
-use Rattle.step_code.specs.declared.machine.Instr.{Instr}
 use Rattle.step_code.specs.Machine.{AreWithin}
-use Rattle.step_code.specs.Code.{Cells, cells_before, Piece, Shape, shape_of, shape_of_level, pieces_at, piece_of, guarded, cell_piece, made, value_truth, all_known, all_truths, is_chain, is_call, is_if, chain_code, chain_truth, binary_code, unary_code, if_code, call_code, op_of_rel}
+use Rattle.step_code.specs.Code.{Cells, cells_before, Shape, shape_of, shape_of_level, pieces_at, piece_of, value_truth, all_known, all_truths, is_chain, is_call, is_if, chain_code, chain_truth, binary_code, unary_code, if_code, call_code, op_of_rel}
 use Rattle.step_code.specs.Correct.{IsTruth, IsHeld, Stands, AreTruths, Gives}
 use Rattle.step_code.proofs.Emitting.{shape_roll}
 use Rattle.step_code.proofs.Giving.{stands_before, truths_before}

@@ -1,5 +1,5 @@
 -- A typed expression whose reads have cells is known.
-use Rattle.std.proofs.Common.{◌≡◌, refl, ap, sym, subst, ◌∙◌, ℕ, zero, suc, ◌+◌, ◌==◌, ◌&&◌, ◌⊎◌, inl, inr, Bool, true, false, if◌then◌else◌, List, [], ◌∷◌, map, length, Option, Some, None, arith}
+use Rattle.std.proofs.Common.{◌≡◌, refl, ap, sym, subst, ◌∙◌, ℕ, suc, ◌+◌, ◌==◌, ◌&&◌, ◌⊎◌, inl, inr, Bool, true, false, if◌then◌else◌, List, [], ◌∷◌, map, length, Option, Some, None, arith}
 use Rattle.std.specs.List.{list_all}
 use Rattle.std.specs.Option.{is_some}
 use Rattle.std.proofs.lemmas.Bool.{false≢true}
@@ -20,8 +20,7 @@ use Rattle.flat_model.specs.declared.clock.ClockExpr.TheViews.{roll-Expr}
 use Rattle.flat_model.specs.declared.clock.ClockExpr.TheFolds.{ind-Expr, fold-roll-Expr, map-Expr}
 use Rattle.flat_model.specs.Typing.{Types, valued_type, type_of_value, is_value, is_type, typed_if, goes_with, type_of_operator, type_if_all, chain_type, relation_type, if_type, arity, call_type, type_of_level, type_of}
 use Rattle.flat_model.proofs.Typed.{both}
-use Rattle.step_code.specs.declared.machine.Op.TheVariants as op
-use Rattle.step_code.specs.Code.{Cells, cells_before, Piece, Shape, shape_of, shape_of_level, pieces_at, piece_of, guarded, cell_piece, made, value_truth, all_known, all_truths, is_lazy, is_strict, is_chain, is_call, is_if, chain_code, chain_truth, binary_code, unary_code, if_code, call_code, op_of_rel}
+use Rattle.step_code.specs.Code.{Cells, cells_before, Piece, Shape, shape_of, shape_of_level, pieces_at, piece_of, guarded, cell_piece, made, value_truth, all_known, all_truths, is_lazy, is_strict, is_chain, is_call, is_if, chain_code, chain_truth, if_code, call_code}
 use Rattle.step_code.specs.Known.{Covering, all_covered, covered_level, covering_of, has_cells, AreMarked}
 use Rattle.step_code.proofs.Emitting.{shape_roll}
 

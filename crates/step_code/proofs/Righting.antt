@@ -1,7 +1,6 @@
 -- The code of an expression gives its value.
-use Rattle.std.proofs.Common.{◌≡◌, refl, ap, ap₂, ◌∙◌, sym, subst, ℕ, zero, suc, ◌+◌, ◌<◌, ◌≤◌, ℤ, pos, Bool, true, false, not, ◌&&◌, if◌then◌else◌, List, [], ◌∷◌, ◌++◌, length, length-append, append_assoc, map, Option, Some, None, Result, Ok, Err, arith}
+use Rattle.std.proofs.Common.{◌≡◌, refl, ap, ◌∙◌, sym, subst, ℕ, suc, ◌+◌, ◌<◌, ℤ, pos, Bool, true, false, ◌&&◌, if◌then◌else◌, List, [], ◌∷◌, ◌++◌, length, length-append, append_assoc, Option, Some, None, Result, Ok, arith}
 use Rattle.std.specs.List.{list_all}
-use Rattle.std.specs.Ordering.{int_eq}
 use Rattle.sync_values.specs.Relation.{rank}
 use Rattle.sync_values.specs.declared.value.Value.{Value}
 use Rattle.sync_values.specs.declared.value.Value.TheVariants as value
@@ -19,11 +18,11 @@ use Rattle.flat_model.specs.Views.{Views}
 use Rattle.step_code.specs.declared.machine.Op.{Op}
 use Rattle.step_code.specs.declared.machine.Op.TheVariants as op
 use Rattle.step_code.specs.declared.machine.Instr.{Instr}
-use Rattle.step_code.specs.Machine.{word_at, result_of, is_value, Goes, Breaks, put, act, act_by, Ran, Done, Stopped, resumed, ran, IsWithin, AreWithin}
-use Rattle.step_code.specs.Code.{Cells, Piece, guarded, instr, held_code, held_place, unary_code, binary_code, op_of_chain, is_lazy, is_strict, op_of_rel, op_of_fun, strict_code, lazy_code, joined_code, more_code, first_code, chain_code, turn_code, if_code, call_code, all_known, all_truths, is_chain, chain_truth, is_call, is_if, made, cell_piece}
-use Rattle.step_code.specs.Correct.{IsTruth, IsHeld, IsMeasured, Stands, IsKept, GivesWord, GivesFail, Gives}
+use Rattle.step_code.specs.Machine.{word_at, result_of, is_value, Goes, act, act_by, resumed, ran, AreWithin}
+use Rattle.step_code.specs.Code.{Cells, Piece, guarded, instr, held_code, held_place, unary_code, binary_code, op_of_chain, is_lazy, is_strict, op_of_rel, op_of_fun, strict_code, lazy_code, joined_code, more_code, first_code, chain_code, turn_code, if_code, call_code, all_truths, is_chain, chain_truth, is_call, is_if, made, cell_piece}
+use Rattle.step_code.specs.Correct.{IsTruth, IsHeld, IsMeasured, Stands, IsKept, GivesWord, Gives}
 use Rattle.step_code.proofs.Matching.{Matches, match_settled, match_applied, match_compared, match_negated, match_inverted, match_one, match_two}
-use Rattle.step_code.proofs.Giving.{kept_self, kept_on, kept_inner, stands_kept, stands_inner, within_front, within_back, within_kept, goes_on, fails_on, fails_inner, op_gives, skips_over}
+use Rattle.step_code.proofs.Giving.{kept_self, kept_inner, stands_kept, stands_inner, within_front, within_back, within_kept, goes_on, fails_on, fails_inner, op_gives, skips_over}
 
 pub and_left : (a b : Bool) → a && b ≡ true → a ≡ true
 and_left true b h = refl

@@ -1,20 +1,18 @@
 -- The code of several equations gives their values, up to the first that fails.
-use Rattle.std.proofs.Common.{◌≡◌, refl, ap, ◌∙◌, sym, subst, ℕ, zero, suc, ◌+◌, ◌<◌, ◌≤◌, ◌==◌, ℤ, Bool, true, false, if◌then◌else◌, List, [], ◌∷◌, ◌++◌, length, Option, Some, None, arith}
+use Rattle.std.proofs.Common.{◌≡◌, refl, ap, ◌∙◌, sym, subst, ℕ, zero, suc, ◌+◌, ◌<◌, ◌==◌, ℤ, Bool, true, false, if◌then◌else◌, List, [], ◌∷◌, ◌++◌, length, Option, Some, None, arith}
 use Rattle.std.proofs.lemmas.Bool.{eqb-true}
 use Rattle.sync_values.specs.Relation.{rank}
 use Rattle.sync_values.specs.declared.value.Value.{Value}
-use Rattle.sync_values.specs.declared.value.Fail.{Fail}
-use Rattle.flat_model.specs.declared.expression.Expr.{Expr}
 use Rattle.flat_model.specs.Operators.{Answer, Is, Fails, Absent}
-use Rattle.flat_model.specs.Views.{View, Views}
+use Rattle.flat_model.specs.Views.{Views}
 use Rattle.flat_model.specs.Meaning.{whole_of, value_of}
 use Rattle.sync_values.specs.Arithmetic.{fitted}
 use Rattle.sync_values.specs.declared.value.Value.TheVariants as value
 use Rattle.step_code.specs.declared.machine.Instr.{Instr}
-use Rattle.step_code.specs.Machine.{word_at, Ran, Done, Stopped, ran, AreWithin}
+use Rattle.step_code.specs.Machine.{word_at, ran, AreWithin}
 use Rattle.step_code.specs.Code.{Cells, piece_of}
-use Rattle.step_code.specs.Correct.{IsTruth, IsHeld, Stands, AreTruths, IsKept, GivesWord, GivesFail, Gives}
-use Rattle.step_code.specs.Lines.{Line, lines_code, given_now, given, Ended, All, Failed, Missing, ended_by, lines_end, Holds, AreApart, IsNewTo, IsLine, AreLines, RunsAs}
+use Rattle.step_code.specs.Correct.{IsTruth, IsHeld, Stands, AreTruths, IsKept, Gives}
+use Rattle.step_code.specs.Lines.{Line, lines_code, given, Ended, All, Failed, Missing, ended_by, lines_end, Holds, AreApart, IsNewTo, IsLine, AreLines, RunsAs}
 use Rattle.step_code.proofs.Giving.{stands_kept, within_front, within_back, within_kept}
 use Rattle.step_code.proofs.Compiled.{code_right, code_gives}
 
