@@ -1,0 +1,6 @@
+pub mod Code
+pub mod Correct
+pub mod Known
+pub mod Laws
+pub mod Lines
+pub mod Machine
