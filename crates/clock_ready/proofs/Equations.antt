@@ -60,7 +60,7 @@ own_node_from clauses before (first ∷ rest) zero equation e =
       length cuts,
       clock,
       get_left (cuts ++ own ∷ after) (nodes_from clauses (before ++ first ∷ []) rest) (length cuts) own (own_at cuts own after)
-      ∙ ap₂ (λ n q. Some (own_node clock n q)) (let z : length before ≡ length before + 0 = omega arith in z) same,
+          ∙ ap₂ (λ n q. Some (own_node clock n q)) (let z : length before ≡ length before + 0 = omega arith in z) same,
     )
 own_node_from clauses before (first ∷ rest) (suc k) equation e =
     let nodes = nodes_of_equation (leading_clock clauses before (clause_of first)) (length before) first in

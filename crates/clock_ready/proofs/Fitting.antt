@@ -49,8 +49,8 @@ each_node : {X : Type 0} (Q : X → Type 0) (P : Mention → Type 0) (by : ℕ �
 each_node Q P by n [] g h = tt
 each_node Q P by n (node ∷ nodes) g h =
     each_append Q (flat_map (by n node.equation) node.mentions) (of_nodes by (n + 1) nodes)
-        (each_mention Q P (by n node.equation) node.mentions g.0 (λ m good. subst (λ k. Each Q (by k node.equation m)) (let e : n + 0 ≡ n = omega arith in e) (h 0 node.equation m (omega arith) good)))
-        (each_node Q P by (n + 1) nodes g.1 (λ j i m lt good. subst (λ k. Each Q (by k i m)) (let e : n + suc j ≡ n + 1 + j = omega arith in e) (h (suc j) i m (omega (arith, lt)) good)))
+    (each_mention Q P (by n node.equation) node.mentions g.0 (λ m good. subst (λ k. Each Q (by k node.equation m)) (let e : n + 0 ≡ n = omega arith in e) (h 0 node.equation m (omega arith) good)))
+    (each_node Q P by (n + 1) nodes g.1 (λ j i m lt good. subst (λ k. Each Q (by k i m)) (let e : n + suc j ≡ n + 1 + j = omega arith in e) (h (suc j) i m (omega (arith, lt)) good)))
 
 pub named : (names : List FlatName) (x : ℕ) (k : NameKind) → types_in names x ≡ Some k → (name : FlatName) × (slice_get names x ≡ Some name)
 named names x k e = by (slice_get names x) refl e
@@ -160,9 +160,12 @@ module _ (model : FlatModel) (terms : Terms) (classes : Classes) (is : IsModel m
           inl (member_class x (inr (x - length model.names, at, omega (arith, size, lt, past))))
 
   pub fits : FitTogether terms classes × HaveKnownFactors terms
-  fits = (record {
-    nodes = λ x d lt. (all_constructors x d lt).0;
-    ends = λ x d lt. (all_relations x d lt).0;
-    entries = λ x d lt. subst (λ c. (c < length classes.clocked) ⊎ (c ≡ 0)) (sym (get_or_default_zero classes.class_of x d lt)) (entry x lt);
-    clocks = λ x d lt. (all_constructors x d lt).1;
-  }, λ x d lt. (all_relations x d lt).1)
+  fits = (
+    record {
+      nodes = λ x d lt. (all_constructors x d lt).0;
+      ends = λ x d lt. (all_relations x d lt).0;
+      entries = λ x d lt. subst (λ c. (c < length classes.clocked) ⊎ (c ≡ 0)) (sym (get_or_default_zero classes.class_of x d lt)) (entry x lt);
+      clocks = λ x d lt. (all_constructors x d lt).1;
+    },
+    λ x d lt. (all_relations x d lt).1,
+  )

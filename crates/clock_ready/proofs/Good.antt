@@ -214,7 +214,7 @@ module _ (types : Types) where
         let before = cuts_of (map seen (map g cs)) in
         let after = cuts_of (map seen (map g bs)) in
         two_good (first ++ second) (seen (g other)).mentions (before ++ after) (seen (g other)).cuts
-            (two_good first second before after (parts_good cs h.0 l.0) (parts_good bs h.1 l.1)) (part_good other h.2 k.1)
+        (two_good first second before after (parts_good cs h.0 l.0) (parts_good bs h.1 l.1)) (part_good other h.2 k.1)
     level_good (Expr-F.Apply function ps) u e c = parts_good ps (call_typed function (map (whole_type_of types) (map g ps)) u e) c
     level_good (Expr-F.Previous x) u e c = ((tt, (valued_below x (types x) refl u e, tt)), tt)
     level_good (Expr-F.FirstTick None) u e c = ((tt, tt), tt)
@@ -252,24 +252,24 @@ module _ (types : Types) where
     clock_rolled (ClockExpr-F.Name x) e c =
         subst (λ k. AreGood (seen_clock k).mentions (seen_clock k).cuts) (sym (clock.rolls-Name x))
         (is_clock_with (clock.Name x) (Stands x ∷ []) [] (mentions-Name x) (cuts-Name x)
-            ((clock_below x (types x) refl (sym (clock_typed_roll (ClockExpr-F.Name x)) ∙ e), tt), tt))
+        ((clock_below x (types x) refl (sym (clock_typed_roll (ClockExpr-F.Name x)) ∙ e), tt), tt))
     clock_rolled ClockExpr-F.Inferred e c =
         subst (λ k. AreGood (seen_clock k).mentions (seen_clock k).cuts) (sym clock.rolls-Inferred)
         (is_clock_with clock.Inferred (Gives clock.Inferred ∷ []) [] mentions-Inferred cuts-Inferred ((subst IsGivenKind (sym kind_of-Inferred) tt, tt), tt))
     clock_rolled (ClockExpr-F.Rational n r) e c =
         subst (λ k. AreGood (seen_clock k).mentions (seen_clock k).cuts) (sym (clock.rolls-Rational n r))
         (is_clock_with (clock.Rational n r) (Gives (clock.Rational n r) ∷ []) [] (mentions-Rational n r) (cuts-Rational n r)
-            ((subst IsGivenKind (sym (kind_of-Rational n r)) (counter_within n r (sym (clock_counters_roll (ClockExpr-F.Rational n r)) ∙ c)), tt), tt))
+        ((subst IsGivenKind (sym (kind_of-Rational n r)) (counter_within n r (sym (clock_counters_roll (ClockExpr-F.Rational n r)) ∙ c)), tt), tt))
     clock_rolled (ClockExpr-F.Event b) e c =
         let own = type_taken kind.Boolean (whole_type_of types (g b)) (sym (clock_typed_roll (ClockExpr-F.Event (g b))) ∙ e) in
         let h = all b own.0 own.1 (sym (clock_counters_roll (ClockExpr-F.Event (g b))) ∙ c) in
         subst (λ k. AreGood (seen_clock k).mentions (seen_clock k).cuts) (sym (clock.rolls-Event (g b)))
         (is_clock_with (clock.Event (g b)) (Gives (clock.Event (g b)) ∷ []) (record { cause = Condition; mentions = (seen (g b)).mentions } ∷ (seen (g b)).cuts) (mentions-Event (g b)) (cuts-Event (g b))
-            ((subst IsGivenKind (sym (kind_of-Event (g b))) tt, tt), h))
+        ((subst IsGivenKind (sym (kind_of-Event (g b))) tt, tt), h))
     clock_rolled (ClockExpr-F.«ClockExpr::Convert» by x) e c =
         subst (λ k. AreGood (seen_clock k).mentions (seen_clock k).cuts) (sym (clock.rolls-Convert by x))
         (is_clock_with (clock.Convert by x) (Converts by x ∷ []) [] (mentions-ClockConvert by x) (cuts-ClockConvert by x)
-            (((clock_below x (types x) refl (sym (clock_typed_roll (ClockExpr-F.«ClockExpr::Convert» by x)) ∙ e), sym (clock_counters_roll (ClockExpr-F.«ClockExpr::Convert» by x)) ∙ c), tt), tt))
+        (((clock_below x (types x) refl (sym (clock_typed_roll (ClockExpr-F.«ClockExpr::Convert» by x)) ∙ e), sym (clock_counters_roll (ClockExpr-F.«ClockExpr::Convert» by x)) ∙ c), tt), tt))
 
   pub good_expr : (e : Expr) → IsGoodExpr e
   good_expr = ind-Expr IsGoodClock IsGoodExpr
@@ -325,16 +325,16 @@ module _ (types : Types) where
         let own = own_node clock (length before) equation in
         let after = cut_nodes (length before) (side_cuts equation) in
         each_append IsGoodNode (cuts ++ own ∷ after) (nodes_from clauses (before ++ equation ∷ []) rest)
-            (each_append IsGoodNode cuts (own ∷ after) (cut_good (length before) (clock_cuts clock) lead.1)
-                (each_append IsGood (clock_mentions clock) (side_mentions equation) lead.0 sides.0, cut_good (length before) (side_cuts equation) sides.1))
-            (nodes_good (before ++ equation ∷ []) rest t.1 c.1)
+        (each_append IsGoodNode cuts (own ∷ after) (cut_good (length before) (clock_cuts clock) lead.1)
+        (each_append IsGood (clock_mentions clock) (side_mentions equation) lead.0 sides.0, cut_good (length before) (side_cuts equation) sides.1))
+        (nodes_good (before ++ equation ∷ []) rest t.1 c.1)
 
 pub model_good : (model : FlatModel) → IsModel model → Each (IsGoodNode (types_in model.names)) (nodes_of model)
 model_good model is =
     let types = types_in model.names in
     nodes_good types model.clauses
-        (each_of_all (λ k. is_typed_clock types k ≡ true) model.clauses is.typed.clauses)
-        (each_of_all (λ k. clock_counters_fit k ≡ true) model.clauses is.counters.clauses)
-        [] model.equations
-        (each_of_all (IsTyped types) model.equations is.typed.equations)
-        (each_of_all HasCounters model.equations is.counters.equations)
+    (each_of_all (λ k. is_typed_clock types k ≡ true) model.clauses is.typed.clauses)
+    (each_of_all (λ k. clock_counters_fit k ≡ true) model.clauses is.counters.clauses)
+    [] model.equations
+    (each_of_all (IsTyped types) model.equations is.typed.equations)
+    (each_of_all HasCounters model.equations is.counters.equations)

@@ -52,9 +52,9 @@ module _ (model : FlatModel) (classes : Classes) (k : AreClassesOf model classes
       let get_first : get_or k.firsts c 0 ≡ first = get_or_from_slice_get k.firsts c first 0 at_first in
       let get_second : get_or k.firsts d 0 ≡ second = get_or_from_slice_get k.firsts d second 0 at_second in
       let not_less : c < d → ⊥ = λ lt. k.numbered_by.apart c d 0 lt lt_d
-          (subst (λ x. AreOfOneClass model x (get_or k.firsts d 0)) (sym get_first) (subst (λ x. AreOfOneClass model first x) (sym get_second) both)) in
+      (subst (λ x. AreOfOneClass model x (get_or k.firsts d 0)) (sym get_first) (subst (λ x. AreOfOneClass model first x) (sym get_second) both)) in
       let not_more : d < c → ⊥ = λ lt. k.numbered_by.apart d c 0 lt lt_c
-          (subst (λ x. AreOfOneClass model x (get_or k.firsts c 0)) (sym get_second) (subst (λ x. AreOfOneClass model second x) (sym get_first) (reversed _ first second both))) in
+      (subst (λ x. AreOfOneClass model x (get_or k.firsts c 0)) (sym get_second) (subst (λ x. AreOfOneClass model second x) (sym get_first) (reversed _ first second both))) in
       omega arith
 
   node_member : (j : ℕ) (node : Node) → IsNode model j node → IsMember model (numbered model j)

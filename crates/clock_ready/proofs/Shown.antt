@@ -47,9 +47,9 @@ module _ (y : ℕ) where
     parts_show (p ∷ ps) some =
         let split = sum_by-cons (λ m. m) (uncut_count y (g p)) (map (uncut_count y) (map g ps)) in
         ⊎_elim
-            (λ h. Contains-append_left (seen (g p)).mentions (mentions_of (map seen (map g ps))) (Stands y) (all p h))
-            (λ h. Contains-append_right (seen (g p)).mentions (mentions_of (map seen (map g ps))) (Stands y) (parts_show ps h))
-            (either (uncut_count y (g p)) (sum (map (uncut_count y) (map g ps))) (omega (arith, some, split)))
+        (λ h. Contains-append_left (seen (g p)).mentions (mentions_of (map seen (map g ps))) (Stands y) (all p h))
+        (λ h. Contains-append_right (seen (g p)).mentions (mentions_of (map seen (map g ps))) (Stands y) (parts_show ps h))
+        (either (uncut_count y (g p)) (sum (map (uncut_count y) (map g ps))) (omega (arith, some, split)))
 
     level_shows : (z : Expr-F A B) → 0 < uncut_in_level y (map-Expr ClockExpr Expr (Unit {0}) ℕ (λ _. tt) (uncut_count y) (raised z))
         → Contains (mentions_of_level (map-Expr ClockExpr Expr SeenClock SeenExpr seen_clock seen (raised z))) (Stands y)
@@ -69,12 +69,12 @@ module _ (y : ℕ) where
         let m = sum (map (uncut_count y) (map g cs)) in
         let n = sum (map (uncut_count y) (map g bs)) in
         ⊎_elim
-            (λ front. Contains-append_left (first ++ second) third (Stands y) (⊎_elim
-                (λ h. Contains-append_left first second (Stands y) (parts_show cs h))
-                (λ h. Contains-append_right first second (Stands y) (parts_show bs h))
-                (either m n front)))
-            (λ h. Contains-append_right (first ++ second) third (Stands y) (all other h))
-            (either (m + n) (uncut_count y (g other)) some)
+        (λ front. Contains-append_left (first ++ second) third (Stands y) (⊎_elim
+        (λ h. Contains-append_left first second (Stands y) (parts_show cs h))
+        (λ h. Contains-append_right first second (Stands y) (parts_show bs h))
+        (either m n front)))
+        (λ h. Contains-append_right (first ++ second) third (Stands y) (all other h))
+        (either (m + n) (uncut_count y (g other)) some)
     level_shows (Expr-F.Apply function ps) some = parts_show ps some
     level_shows (Expr-F.Previous n) some = there Ticks (Stands n ∷ []) (Stands y) (stands n some)
     level_shows (Expr-F.FirstTick None) some = nothing some

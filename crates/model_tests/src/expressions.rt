@@ -103,6 +103,7 @@ fn made(rt: &impl Abort, alloc: Global, what: Form) -> Expr {
 }
 
 const TRUE: Answer = Answer::Is(Value::Bool(true));
+
 const DIVIDE: Answer = Answer::Fails(Fail::Divide);
 
 /// What an expression gives: a part that has no value is not needed behind one that decides, and the leftmost failure

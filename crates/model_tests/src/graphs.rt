@@ -114,9 +114,7 @@ fn list_of<T: Copy>(rt: &impl Abort, alloc: Global, items: &[T]) -> Vec<T> {
 fn graph_from(rt: &impl Abort, alloc: Global, lists: &[&[usize]]) -> Vec<Vec<usize>> {
     let mut graph = Vec::new(alloc);
     for &links in lists {
-        graph
-            .push(list_of(rt, alloc, links))
-            .expect(rt, "memory");
+        graph.push(list_of(rt, alloc, links)).expect(rt, "memory");
     }
     graph
 }

@@ -1,10 +1,11 @@
-//! Tests of the meaning of a model.
+//! Tests of the layers above flat models.
 #![tactic(auto)]
 
 #[cfg(test)]
 mod expressions;
 #[cfg(test)]
+mod graphs;
+#[cfg(test)]
 mod orders;
 #[cfg(test)]
 mod orientation;
-mod graphs;
