@@ -54,15 +54,15 @@ both true true e = (refl, refl)
 both true false e = absurd (false≢true e)
 both false b e = absurd (false≢true e)
 
-if_some : {A : Type 0} (b : Bool) (o : Option A) (a : A) → (if b then o else None) ≡ Some a → (b ≡ true) × (o ≡ Some a)
+pub if_some : {A : Type 0} (b : Bool) (o : Option A) (a : A) → (if b then o else None) ≡ Some a → (b ≡ true) × (o ≡ Some a)
 if_some true o a e = (refl, e)
 if_some false o a e = absurd (none-some a e)
 
-typed_some : (b : Bool) (t u : NameKind) → typed_if b t ≡ Some u → (b ≡ true) × (t ≡ u)
+pub typed_some : (b : Bool) (t u : NameKind) → typed_if b t ≡ Some u → (b ≡ true) × (t ≡ u)
 typed_some true t u e = (refl, same_Some t u e)
 typed_some false t u e = absurd (none-some u e)
 
-is_type_some : (type : NameKind) (o : Option NameKind) → is_type type o ≡ true → o ≡ Some type
+pub is_type_some : (type : NameKind) (o : Option NameKind) → is_type type o ≡ true → o ≡ Some type
 is_type_some kind.Integer (Some kind.Integer) e = refl
 is_type_some kind.Boolean (Some kind.Boolean) e = refl
 is_type_some kind.Integer None e = absurd (false≢true e)
@@ -76,7 +76,7 @@ is_type_some kind.Clock (Some kind.Integer) e = absurd (false≢true e)
 is_type_some kind.Clock (Some kind.Boolean) e = absurd (false≢true e)
 is_type_some kind.Clock (Some kind.Clock) e = absurd (false≢true e)
 
-same_number : (m n : ℕ) → m == n ≡ true → m ≡ n
+pub same_number : (m n : ℕ) → m == n ≡ true → m ≡ n
 same_number m n e = by_case (eqb_tells m n)
   where
     by_case : ((m == n ≡ true) × (m ≡ n)) ⊎ ((m == n ≡ false) × (m ≡ n → ⊥)) → m ≡ n

@@ -1,4 +1,5 @@
 pub mod Answers
+pub mod Arguments
 pub mod Asks
 pub mod Assignment
 pub mod Clocks
@@ -20,6 +21,7 @@ pub mod Operators
 pub mod Order
 pub mod Parts
 pub mod Plan
+pub mod RawModels
 pub mod Runnable
 pub mod Runs
 pub mod Samples

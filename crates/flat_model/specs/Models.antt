@@ -9,6 +9,7 @@ use Rattle.flat_model.specs.declared.model.NameKind.TheVariants as kind
 use Rattle.flat_model.specs.Assignment.{IsOfKind}
 use Rattle.flat_model.specs.Typing.{types_in}
 use Rattle.flat_model.specs.WholeTyping.{IsTyped, is_typed_clock}
+use Rattle.flat_model.specs.Arguments.{HasOwnArguments, clock_holds_no_input}
 use Rattle.flat_model.specs.Counters.{HasCounters, clock_counters_fit}
 
 -- how many names a model has at most, and how many equations
@@ -37,6 +38,11 @@ pub record AreCounters (model : FlatModel) : Type 0 where
   pub equations : All HasCounters model.equations
   pub clauses : All (λ clock. clock_counters_fit clock ≡ true) model.clauses
 
+-- no input is held or converted
+pub record AreArguments (model : FlatModel) : Type 0 where
+  pub equations : All (HasOwnArguments model.names) model.equations
+  pub clauses : All (λ clock. clock_holds_no_input model.names clock ≡ true) model.clauses
+
 -- the clause in which an equation stands
 abbrev pub clause_of : Equation → Option ℕ
 clause_of (Valued left right clause) = clause
@@ -47,10 +53,11 @@ pub record AreClauses (equations : List Equation) (clauses : List ClockExpr) : T
   pub below : All (λ equation. (c : ℕ) → clause_of equation ≡ Some c → c < length clauses) equations
   pub used : (c : ℕ) → c < length clauses → (i : ℕ) × (equation : Equation) × (slice_get equations i ≡ Some equation) × (clause_of equation ≡ Some c)
 
--- a flat model: names, not too many equations, types, counters and clauses
+-- a flat model: names, not too many equations, types, counters, arguments and clauses
 pub record IsModel (model : FlatModel) : Type 0 where
   pub names : AreNames model.names
   pub few : length model.equations ≤ size_limit
   pub typed : AreTyped model
   pub counters : AreCounters model
+  pub arguments : AreArguments model
   pub clauses : AreClauses model.equations model.clauses

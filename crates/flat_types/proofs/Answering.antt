@@ -10,7 +10,7 @@ use Rattle.flat_model.specs.declared.model.FlatName.{FlatName}
 use Rattle.flat_model.specs.declared.raw.RawEq.{RawEq}
 use Rattle.flat_model.specs.declared.raw.RawExpr.{RawExpr}
 use Rattle.flat_model.specs.declared.raw.RawModel.{RawModel}
-use Rattle.flat_types.specs.RawModels.{AreClausesUsed}
+use Rattle.flat_model.specs.RawModels.{AreClausesUsed}
 use Rattle.flat_types.specs.declared.ends.TypeCode.{TypeCode}
 use Rattle.flat_types.specs.declared.ends.TypeEnd.{TypeEnd}
 use Rattle.flat_types.specs.declared.ends.TypeEnd.TheVariants.{Fault, NoMemory}

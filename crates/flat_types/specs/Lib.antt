@@ -2,7 +2,6 @@ pub mod Callees
 pub mod Checked
 pub mod Laws
 pub mod Outcomes
-pub mod RawModels
 pub mod Readings
 pub mod Shapes
 pub mod Typed

@@ -1,6 +1,6 @@
 -- What a node of an equation is once its parts are known, and which rule it breaks.
 use Rattle.std.specs.Prelude.{ℕ, zero, suc, ℤ, pos, negsuc, ◌^◌, ◌-◌, ◌==◌, nat_le, nat_lt, Bool, true, false, not, ◌&&◌, ◌||◌, List, [], ◌∷◌, length, map, Option, Some, None, Result, Ok, Err, slice_get, option_map, if◌then◌else◌}
-use Rattle.std.specs.Option.{option_and_then, unwrap_or}
+use Rattle.std.specs.Option.{option_and_then}
 use Rattle.std.specs.List.{list_all, list_any}
 use Rattle.sync_values.specs.declared.value.Value.{Value}
 use Rattle.sync_values.specs.declared.value.Value.TheVariants as value
@@ -21,6 +21,7 @@ use Rattle.flat_model.specs.declared.clock.ClockExpr.TheOpen.{Expr-F}
 use Rattle.flat_model.specs.declared.clock.ClockExpr.TheFolds.{fold-Expr}
 use Rattle.flat_model.specs.Operators.{Answer, Is}
 use Rattle.flat_model.specs.Answers.{views_of}
+use Rattle.flat_model.specs.Arguments.{is_input}
 use Rattle.flat_model.specs.Counters.{is_counter}
 use Rattle.flat_model.specs.Meaning.{value_of}
 use Rattle.flat_model.specs.Typing.{types_in, type_of_value, is_type, arity, chain_type, relation_type, if_type}
@@ -118,9 +119,6 @@ module _ (names : List FlatName) where
   abbrev pub kind_of_name : ℕ → Option NameKind
   kind_of_name x = types_in names x
 
-  abbrev pub is_input : ℕ → Bool
-  is_input x = unwrap_or (option_map (λ name. name.input) (slice_get names x)) false
-
   abbrev pub as_value : Outcome → Option (Expr × NameKind)
   as_value (Name x) = read_as x (kind_of_name x)
   as_value (Valued expr type) = Some (expr, type)
@@ -141,7 +139,7 @@ module _ (names : List FlatName) where
 
   -- a name as an argument, which is told apart from what is no name, and from an input where that is refused
   abbrev pub component : Bool → Outcome → Result ℕ TypeCode
-  component refuses (Name x) = if refuses && is_input x then Err Y2 else Ok x
+  component refuses (Name x) = if refuses && is_input names x then Err Y2 else Ok x
   component refuses _ = Err Y2
 
   -- a conversion of a variable or a Clock name

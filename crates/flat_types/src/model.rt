@@ -1,6 +1,6 @@
 //! Typed models.
 ghost use Rattle.std.specs.Prelude.{◌≡◌, ◌<◌, ◌^◌, IfOk, map, length};
-ghost use Rattle.flat_types.specs.RawModels.{AreClausesUsed};
+ghost use Rattle.flat_model.specs.RawModels.{AreClausesUsed};
 ghost use Rattle.flat_types.specs.Outcomes as outcomes;
 ghost use Rattle.flat_types.specs.Typed as spec;
 ghost use Rattle.flat_types.specs.Checked as checked;

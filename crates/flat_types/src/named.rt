@@ -1,5 +1,6 @@
 //! Names as parts of an expression, and as arguments.
 ghost use Rattle.std.specs.Prelude.{◌≡◌};
+ghost use Rattle.flat_model.specs.Arguments.{is_input};
 ghost use Rattle.flat_types.specs.Outcomes as spec;
 
 use crate::ends::TypeCode;
@@ -15,7 +16,7 @@ pub fn kind_of_name(names: &[FlatName], x: u32) -> Option<NameKind>
 
 /// Whether a name is an input.
 fn is_input(names: &[FlatName], x: u32) -> bool
-    ensures { result ≡ spec.is_input names.now x }
+    ensures { result ≡ is_input names.now x }
 {
     match names.get(x as usize) {
         Some(name) => name.input,

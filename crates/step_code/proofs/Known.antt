@@ -4,7 +4,6 @@ use Rattle.std.specs.List.{list_all}
 use Rattle.std.specs.Option.{is_some}
 use Rattle.std.proofs.lemmas.Bool.{false≢true}
 use Rattle.std.proofs.lemmas.Option.{same_Some, none-some}
-use Rattle.std.proofs.lemmas.Bool.Decides.{eqb_tells}
 use Rattle.sync_values.specs.declared.value.Value.{Value}
 use Rattle.sync_values.specs.declared.value.Value.TheVariants as value
 use Rattle.sync_values.specs.declared.value.ChainOp.{ChainOp}
@@ -19,7 +18,7 @@ use Rattle.flat_model.specs.declared.clock.ClockExpr.TheOpen.{Expr-F}
 use Rattle.flat_model.specs.declared.clock.ClockExpr.TheViews.{roll-Expr}
 use Rattle.flat_model.specs.declared.clock.ClockExpr.TheFolds.{ind-Expr, fold-roll-Expr, map-Expr}
 use Rattle.flat_model.specs.Typing.{Types, valued_type, type_of_value, is_value, is_type, typed_if, goes_with, type_of_operator, type_if_all, chain_type, relation_type, if_type, arity, call_type, type_of_level, type_of}
-use Rattle.flat_model.proofs.Typed.{both}
+use Rattle.flat_model.proofs.Typed.{both, if_some, typed_some, is_type_some, same_number}
 use Rattle.step_code.specs.Code.{Cells, cells_before, Piece, Shape, shape_of, shape_of_level, pieces_at, piece_of, guarded, cell_piece, made, value_truth, all_known, all_truths, is_lazy, is_strict, is_chain, is_call, is_if, chain_code, chain_truth, if_code, call_code}
 use Rattle.step_code.specs.Known.{Covering, all_covered, covered_level, covering_of, has_cells, AreMarked}
 use Rattle.step_code.proofs.Emitting.{shape_roll}
@@ -29,35 +28,6 @@ use Rattle.step_code.proofs.Emitting.{shape_roll}
 and_both : (a b : Bool) → a ≡ true → b ≡ true → a && b ≡ true
 and_both true b h k = k
 and_both false b h k = h
-
-typed_some : (b : Bool) (t u : NameKind) → typed_if b t ≡ Some u → (b ≡ true) × (t ≡ u)
-typed_some true t u e = (refl, same_Some t u e)
-typed_some false t u e = absurd (none-some u e)
-
-if_some : {A : Type 0} (b : Bool) (o : Option A) (a : A) → (if b then o else None) ≡ Some a → (b ≡ true) × (o ≡ Some a)
-if_some true o a e = (refl, e)
-if_some false o a e = absurd (none-some a e)
-
-is_type_some : (type : NameKind) (o : Option NameKind) → is_type type o ≡ true → o ≡ Some type
-is_type_some kind.Integer (Some kind.Integer) e = refl
-is_type_some kind.Boolean (Some kind.Boolean) e = refl
-is_type_some kind.Integer None e = absurd (false≢true e)
-is_type_some kind.Integer (Some kind.Boolean) e = absurd (false≢true e)
-is_type_some kind.Integer (Some kind.Clock) e = absurd (false≢true e)
-is_type_some kind.Boolean None e = absurd (false≢true e)
-is_type_some kind.Boolean (Some kind.Integer) e = absurd (false≢true e)
-is_type_some kind.Boolean (Some kind.Clock) e = absurd (false≢true e)
-is_type_some kind.Clock None e = absurd (false≢true e)
-is_type_some kind.Clock (Some kind.Integer) e = absurd (false≢true e)
-is_type_some kind.Clock (Some kind.Boolean) e = absurd (false≢true e)
-is_type_some kind.Clock (Some kind.Clock) e = absurd (false≢true e)
-
-same_number : (m n : ℕ) → m == n ≡ true → m ≡ n
-same_number m n e = by_case (eqb_tells m n)
-  where
-    by_case : ((m == n ≡ true) × (m ≡ n)) ⊎ ((m == n ≡ false) × (m ≡ n → ⊥)) → m ≡ n
-    by_case (inl (t, is)) = is
-    by_case (inr (f, other)) = absurd (false≢true (sym f ∙ e))
 
 not_boolean : (t : NameKind) → kind.Integer ≡ t → t ≡ kind.Boolean → false ≡ true
 not_boolean t is boolean = cc

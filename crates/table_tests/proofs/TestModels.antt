@@ -33,6 +33,10 @@ two_names model a b names equations clauses first second apart = record {
     equations = λ k d less. absurd (omega (arith, ap length equations));
     clauses = λ k d less. absurd (omega (arith, ap length clauses));
   };
+  arguments = record {
+    equations = λ k d less. absurd (omega (arith, ap length equations));
+    clauses = λ k d less. absurd (omega (arith, ap length clauses));
+  };
   clauses = record {
     below = λ k d less. absurd (omega (arith, ap length equations));
     used = λ c less. absurd (omega (arith, ap length clauses));

@@ -1,5 +1,5 @@
 ghost use Rattle.std.specs.Prelude.{◌≡◌, ◌<◌, ◌^◌, [], length, IfOk};
-ghost use Rattle.flat_types.specs.RawModels.{AreClausesUsed};
+ghost use Rattle.flat_model.specs.RawModels.{AreClausesUsed};
 
 use flat_model::{FlatName, NameKind, RawEq, RawExpr, RawModel};
 use flat_types::{TypeCode, TypeEnd, answer_law, typed};
