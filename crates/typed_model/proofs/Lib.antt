@@ -1,0 +1,13 @@
+pub mod Good
+pub mod Values
+pub mod Clocks
+pub mod Lists
+pub mod Parts
+pub mod Forms
+pub mod Counted
+pub mod Named
+pub mod Calls
+pub mod Intervals
+pub mod Nodes
+pub mod Sides
+pub mod Models
