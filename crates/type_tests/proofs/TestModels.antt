@@ -1,5 +1,5 @@
 -- The clause of a model that a test types is that of its second equation.
-use Rattle.std.proofs.Common.{◌≡◌, ap, ◌∙◌, ℕ, zero, suc, ◌<◌, ◌≤◌, List, [], ◌∷◌, ◌++◌, length, Some, None, arith}
+use Rattle.std.proofs.Common.{◌≡◌, ap, zero, suc, [], ◌∷◌, length, Some, arith}
 use Rattle.std.specs.Prelude.{slice_get}
 use Rattle.flat_model.specs.declared.raw.RawEq.{RawEq}
 use Rattle.flat_model.specs.declared.raw.RawExpr.{RawExpr}

@@ -1,4 +1,4 @@
-use Rattle.std.proofs.Common.{◌≡◌, ap, ◌∙◌, [], ◌∷◌, ◌++◌}
+use Rattle.std.proofs.Common.{ap, ◌∙◌, [], ◌∷◌, ◌++◌}
 use Rattle.type_tests.proofs.TestModels.{used_by_second}
 use Rattle.type_tests.proofs.clauses.model.Goals as goal
 
