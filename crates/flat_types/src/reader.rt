@@ -202,7 +202,7 @@ impl<'a> Reader<'a> {
         match parts {
             [part] => {
                 let part = self.read(part)?;
-                Ok(interval_of(self.names, &part).map(|x| Some(x)))
+                Ok(interval_of(self.names, &part).map(Some))
             }
             _ => Ok(Ok(None)),
         }
