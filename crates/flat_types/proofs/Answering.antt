@@ -1,9 +1,8 @@
 -- What is found equation by equation is the answer of the definition.
-use Rattle.std.proofs.Common.{◌≡◌, refl, ap, ap₂, ◌∙◌, sym, subst, ℕ, suc, zero, ◌<◌, List, [], ◌∷◌, map, length, Option, Some, None, Result, Ok, Err, option_map}
+use Rattle.std.proofs.Common.{◌≡◌, refl, ap, ap₂, ◌∙◌, sym, subst, ℕ, ◌<◌, List, [], ◌∷◌, map, Option, Some, None, Result, Ok, Err, option_map}
 use Rattle.std.specs.Prelude.{slice_get, IsErr, IsErrAnd}
 use Rattle.std.specs.Option.{option_and_then}
 use Rattle.std.proofs.lemmas.Option.{slice_get-map, slice_get_within}
-use Rattle.flat_model.specs.declared.clock.ClockExpr.{ClockExpr}
 use Rattle.flat_model.specs.declared.equation.Equation.{Equation}
 use Rattle.flat_model.specs.declared.model.FlatModel.{FlatModel}
 use Rattle.flat_model.specs.declared.model.FlatName.{FlatName}

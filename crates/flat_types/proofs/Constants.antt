@@ -1,6 +1,5 @@
 -- The equations of `is_constant`, one for each kind of expression.
 use Rattle.std.proofs.Common.{◌≡◌, ap, ◌∙◌, sym, ℕ, Bool, true, false, ◌&&◌, List, map, Option}
-use Rattle.std.specs.Prelude.{option_map}
 use Rattle.std.specs.List.{list_all}
 use Rattle.sync_values.specs.declared.value.Value.{Value}
 use Rattle.sync_values.specs.declared.value.Rel.{Rel}

@@ -1,23 +1,21 @@
 -- Which nodes are intervals, and which are products with one.
-use Rattle.std.proofs.Common.{◌≡◌, refl, ℕ, suc, ◌≤◌, List, [], ◌∷◌, map, length, arith}
-use Rattle.flat_model.specs.declared.expression.Fun.{Fun}
+use Rattle.std.proofs.Common.{◌≡◌, refl, ℕ, ◌≤◌, List, [], ◌∷◌, map, length, arith}
 use Rattle.flat_model.specs.declared.model.FlatName.{FlatName}
 use Rattle.flat_model.specs.declared.raw.RawExpr.{RawExpr}
 use Rattle.flat_types.specs.declared.callee.Callee.{Callee}
 use Rattle.flat_types.specs.declared.callee.Callee.TheVariants as to
-use Rattle.std.proofs.Common.{ap, ◌∙◌, true, false, Bool, Option, Some, None, Result, Ok, Err, ◌++◌}
+use Rattle.std.proofs.Common.{ap, ◌∙◌, true, false, Bool, Option, Some, None, Result, Ok, Err}
 use Rattle.sync_values.specs.declared.value.ChainOp.TheVariants.{Times}
 use Rattle.flat_model.specs.declared.raw.RawExpr.TheVariants as r
 use Rattle.flat_model.specs.declared.model.NameKind.TheVariants as kind
 use Rattle.flat_model.specs.Typing.{is_type}
 use Rattle.flat_types.specs.declared.ends.TypeCode.{TypeCode}
-use Rattle.flat_types.specs.declared.ends.TypeCode.TheVariants.{Y1, Y3}
-use Rattle.flat_types.specs.declared.outcome.Outcome.{Outcome}
+use Rattle.flat_types.specs.declared.ends.TypeCode.TheVariants.{Y3}
 use Rattle.flat_types.specs.declared.outcome.Outcome.TheVariants.{Broken}
 use Rattle.std.specs.Prelude.{is_none, if◌then◌else◌}
 use Rattle.flat_types.specs.Outcomes.{first_broken}
 use Rattle.flat_types.specs.Callees.{callee}
-use Rattle.flat_types.specs.Readings.{Reading, reading, node_of, found_in, call_read, call_found, call_gives, given, after, product_of_two, interval_of, integer_found, integer_gives, of_product, first_interval, second_interval}
+use Rattle.flat_types.specs.Readings.{Reading, reading, node_of, call_read, call_found, call_gives, given, after, product_of_two, interval_of, integer_found, integer_gives, of_product, first_interval, second_interval}
 use Rattle.flat_types.proofs.Nodes.{reading-Call, reading-Chain, nodes_found}
 
 module _ (names : List FlatName) where

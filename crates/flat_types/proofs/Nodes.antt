@@ -1,5 +1,5 @@
 -- The equations of `reading`, one for each kind of expression.
-use Rattle.std.proofs.Common.{◌≡◌, refl, ap, ◌∙◌, sym, ℕ, List, [], ◌∷◌, Option, Some, None, map}
+use Rattle.std.proofs.Common.{◌≡◌, refl, ap, ◌∙◌, sym, ℕ, List, [], ◌∷◌, Some, None, map}
 use Rattle.sync_values.specs.declared.value.Value.{Value}
 use Rattle.sync_values.specs.declared.value.Rel.{Rel}
 use Rattle.sync_values.specs.declared.value.ChainOp.{ChainOp}
@@ -14,7 +14,6 @@ use Rattle.flat_types.specs.declared.ends.TypeCode.TheVariants.{Y5}
 use Rattle.flat_types.specs.declared.outcome.Outcome.TheVariants as o
 use Rattle.flat_types.specs.declared.outcome.Outcome.TheVariants.{Valued, Broken}
 use Rattle.flat_types.specs.Outcomes.{kind_of_name}
-use Rattle.flat_types.specs.declared.callee.Callee.{Callee}
 use Rattle.flat_types.specs.Callees.{callee}
 use Rattle.flat_types.specs.declared.outcome.Outcome.{Outcome}
 use Rattle.flat_types.specs.Readings.{Reading, plain, read_level, reading, node_of, found_in, call_read, after, after_both, after_one, in_turn, chain_found, relation_found, single_found, if_found}

@@ -3,17 +3,11 @@ use Rattle.std.proofs.Common.{◌≡◌, refl, ap, ◌∙◌, sym, subst, ℕ, z
 use Rattle.std.specs.Prelude.{slice_get}
 use Rattle.std.proofs.lemmas.Bool.{cases_order}
 use Rattle.std.proofs.lemmas.Option.{slice_get-map, same_Some}
-use Rattle.flat_model.specs.declared.clock.ClockExpr.{ClockExpr}
-use Rattle.flat_model.specs.declared.equation.Equation.{Equation}
 use Rattle.flat_model.specs.declared.model.FlatModel.{FlatModel}
-use Rattle.flat_model.specs.declared.model.FlatName.{FlatName}
-use Rattle.flat_model.specs.declared.raw.RawEq.{RawEq}
-use Rattle.flat_model.specs.declared.raw.RawExpr.{RawExpr}
 use Rattle.flat_model.specs.declared.raw.RawModel.{RawModel}
 use Rattle.flat_types.specs.declared.ends.TypeCode.{TypeCode}
-use Rattle.flat_types.specs.declared.ends.TypeEnd.{TypeEnd}
 use Rattle.flat_types.specs.declared.ends.TypeEnd.TheVariants.{Fault, NoMemory}
-use Rattle.flat_types.specs.Typed.{clause_clock, equation_of, code_of, IsFirstOf, Breaks, clock, own, IsTypedAs, Answers}
+use Rattle.flat_types.specs.Typed.{clause_clock, equation_of, code_of, IsFirstOf, Breaks, clock, own, IsTypedAs}
 use Rattle.flat_types.specs.Laws.{AnswerLaw}
 
 -- what is right in both is the same

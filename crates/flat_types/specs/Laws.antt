@@ -1,5 +1,5 @@
 -- A raw model has one answer.
-use Rattle.std.specs.Prelude.{◌≡◌, ◌≢◌, Result, Ok, Err}
+use Rattle.std.specs.Prelude.{◌≡◌, ◌≢◌, Result, Err}
 use Rattle.flat_model.specs.declared.model.FlatModel.{FlatModel}
 use Rattle.flat_model.specs.declared.raw.RawModel.{RawModel}
 use Rattle.flat_types.specs.declared.ends.TypeEnd.{TypeEnd}

@@ -1,20 +1,14 @@
 -- What a node of an equation is once its parts are known, and which rule it breaks.
-use Rattle.std.specs.Prelude.{ℕ, zero, suc, ℤ, pos, negsuc, ◌^◌, ◌-◌, ◌==◌, nat_le, nat_lt, Bool, true, false, not, ◌&&◌, ◌||◌, List, [], ◌∷◌, length, map, Option, Some, None, Result, Ok, Err, slice_get, option_map, if◌then◌else◌}
+use Rattle.std.specs.Prelude.{ℕ, zero, suc, ℤ, pos, negsuc, Bool, true, false, ◌&&◌, List, [], ◌∷◌, Option, Some, None, Result, Ok, Err, option_map, if◌then◌else◌}
 use Rattle.std.specs.Option.{option_and_then}
-use Rattle.std.specs.List.{list_all, list_any}
-use Rattle.sync_values.specs.declared.value.Value.{Value}
+use Rattle.std.specs.List.{list_all}
 use Rattle.sync_values.specs.declared.value.Value.TheVariants as value
-use Rattle.sync_values.specs.declared.value.Rel.{Rel}
-use Rattle.sync_values.specs.declared.value.ChainOp.{ChainOp}
-use Rattle.sync_values.specs.declared.value.ChainOp.TheVariants.{Plus, Minus, Times, Over, And, Or}
 use Rattle.flat_model.specs.declared.model.NameKind.{NameKind}
 use Rattle.flat_model.specs.declared.model.NameKind.TheVariants as kind
 use Rattle.flat_model.specs.declared.model.FlatName.{FlatName}
 use Rattle.flat_model.specs.declared.expression.Expr.{Expr}
 use Rattle.flat_model.specs.declared.expression.Expr.TheVariants as e
-use Rattle.flat_model.specs.declared.expression.Fun.{Fun}
 use Rattle.flat_model.specs.declared.clock.Conversion.{Conversion}
-use Rattle.flat_model.specs.declared.clock.Conversion.TheVariants as by
 use Rattle.flat_model.specs.declared.clock.ClockExpr.{ClockExpr}
 use Rattle.flat_model.specs.declared.clock.ClockExpr.TheVariants as c
 use Rattle.flat_model.specs.declared.clock.ClockExpr.TheOpen.{Expr-F}
@@ -24,11 +18,11 @@ use Rattle.flat_model.specs.Answers.{views_of}
 use Rattle.flat_model.specs.Arguments.{is_input}
 use Rattle.flat_model.specs.Counters.{is_counter}
 use Rattle.flat_model.specs.Meaning.{value_of}
-use Rattle.flat_model.specs.Typing.{types_in, type_of_value, is_type, arity, chain_type, relation_type, if_type}
+use Rattle.flat_model.specs.Typing.{types_in}
 use Rattle.flat_types.specs.declared.ends.TypeCode.{TypeCode}
 use Rattle.flat_types.specs.declared.outcome.Outcome.{Outcome}
 use Rattle.flat_types.specs.declared.outcome.Outcome.TheVariants.{Name, Valued, Clocked, Broken}
-use Rattle.flat_types.specs.declared.ends.TypeCode.TheVariants.{Y1, Y2, Y3, Y4, Y5}
+use Rattle.flat_types.specs.declared.ends.TypeCode.TheVariants.{Y1, Y2, Y4}
 
 -- the first broken rule among parts, left to right
 abbrev pub first_broken : List Outcome → Option TypeCode

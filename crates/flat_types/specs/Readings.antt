@@ -1,31 +1,27 @@
 -- The reading of an expression whose types are not known yet: what each node is, the parts before it.
-use Rattle.std.specs.Prelude.{ℕ, ◌==◌, Bool, true, false, not, ◌&&◌, ◌||◌, List, [], ◌∷◌, ◌++◌, length, map, Option, Some, None, Result, Ok, Err, is_none, option_map, if◌then◌else◌}
-use Rattle.std.specs.Option.{option_and_then}
+use Rattle.std.specs.Prelude.{ℕ, ◌==◌, Bool, true, false, List, [], ◌∷◌, length, map, Option, Some, None, Result, Ok, Err, is_none, option_map, if◌then◌else◌}
 use Rattle.std.specs.List.{list_all, list_any}
-use Rattle.sync_values.specs.declared.value.Value.{Value}
 use Rattle.sync_values.specs.declared.value.Rel.{Rel}
 use Rattle.sync_values.specs.declared.value.ChainOp.{ChainOp}
-use Rattle.sync_values.specs.declared.value.ChainOp.TheVariants.{Plus, Minus, Times, Over, And, Or}
+use Rattle.sync_values.specs.declared.value.ChainOp.TheVariants.{Times, Over, And, Or}
 use Rattle.flat_model.specs.declared.model.NameKind.{NameKind}
 use Rattle.flat_model.specs.declared.model.NameKind.TheVariants as kind
 use Rattle.flat_model.specs.declared.model.FlatName.{FlatName}
 use Rattle.flat_model.specs.declared.expression.Expr.{Expr}
 use Rattle.flat_model.specs.declared.expression.Expr.TheVariants as e
 use Rattle.flat_model.specs.declared.expression.Fun.{Fun}
-use Rattle.flat_model.specs.declared.clock.Conversion.{Conversion}
 use Rattle.flat_model.specs.declared.clock.Conversion.TheVariants as by
-use Rattle.flat_model.specs.declared.clock.ClockExpr.{ClockExpr}
 use Rattle.flat_model.specs.declared.clock.ClockExpr.TheVariants as c
 use Rattle.flat_model.specs.declared.raw.RawExpr.{RawExpr}
 use Rattle.flat_model.specs.declared.raw.RawExpr.TheOpen.{RawExpr-F}
 use Rattle.flat_model.specs.declared.raw.RawExpr.TheFolds.{fold-RawExpr}
-use Rattle.flat_model.specs.Typing.{is_type, type_of_value, arity, chain_type, relation_type, if_type, typed_if, type_of_operator}
+use Rattle.flat_model.specs.Typing.{is_type, type_of_value, arity, chain_type, relation_type, if_type, typed_if}
 use Rattle.flat_types.specs.declared.ends.TypeCode.{TypeCode}
-use Rattle.flat_types.specs.declared.ends.TypeCode.TheVariants.{Y1, Y2, Y3, Y4, Y5}
+use Rattle.flat_types.specs.declared.ends.TypeCode.TheVariants.{Y1, Y3, Y4, Y5}
 use Rattle.flat_types.specs.declared.outcome.Outcome.{Outcome}
 use Rattle.flat_types.specs.declared.outcome.Outcome.TheVariants.{Name, Valued, Clocked, Broken}
 use Rattle.flat_types.specs.declared.callee.Callee.{Callee}
-use Rattle.flat_types.specs.declared.callee.Callee.TheVariants.{Arithmetic, Integer, Interval, Operator, Sample, Clock, LeftOut, Unknown}
+use Rattle.flat_types.specs.declared.callee.Callee.TheVariants.{Arithmetic, Integer, Interval, Operator, Sample, Clock, LeftOut}
 use Rattle.flat_types.specs.declared.callee.Operator as op
 use Rattle.flat_types.specs.declared.callee.Operator.TheVariants as operator
 use Rattle.flat_types.specs.Callees.{callee}

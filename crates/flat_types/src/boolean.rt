@@ -143,6 +143,51 @@ impl<'a> Reader<'a> {
         }
     }
 
+    /// Whether a chain gives a Boolean.
+    fn chain_gives_boolean(&self, parts: &[RawExpr], ops: &[ChainOp]) -> Result<bool, AllocError>
+        ensures { IfOk result (λ taken. taken ≡ typing.is_type NameKind.Boolean (node.given (map (node.node_of self.now.names.now) parts.now) (node.chain_gives ops.now))) }
+    {
+        let parts = self.all(parts)?;
+        Ok(chain_is_boolean(parts.as_slice(), ops))
+    }
+
+    /// Whether a relation gives a Boolean.
+    fn relation_gives_boolean(&self, left: &RawExpr, right: &RawExpr) -> Result<bool, AllocError>
+        ensures { IfOk result (λ taken. taken ≡ typing.is_type NameKind.Boolean (node.given (node.node_of self.now.names.now left.now ∷ (node.node_of self.now.names.now right.now ∷ [])) (Some NameKind.Boolean))) }
+    {
+        let left = self.read(left)?;
+        let right = self.read(right)?;
+        Ok(relation_is_boolean(&left, &right))
+    }
+
+    /// Whether `not` gives a Boolean.
+    fn inverse_gives_boolean(&self, part: &RawExpr) -> Result<bool, AllocError>
+        ensures { IfOk result (λ taken. taken ≡ typing.is_type NameKind.Boolean (node.given (node.node_of self.now.names.now part.now ∷ []) (Some NameKind.Boolean))) }
+    {
+        let part = self.read(part)?;
+        Ok(inverse_is_boolean(&part))
+    }
+
+    /// Whether a choice gives a Boolean.
+    fn choice_gives_boolean(
+        &self,
+        conditions: &[RawExpr],
+        branches: &[RawExpr],
+        other: &RawExpr,
+    ) -> Result<bool, AllocError>
+        ensures { IfOk result (λ taken. taken ≡ typing.is_type NameKind.Boolean (node.choice_gives self.now.names.now (map (node.node_of self.now.names.now) conditions.now) (map (node.node_of self.now.names.now) branches.now) (node.node_of self.now.names.now other.now))) }
+    {
+        let conditions = self.all(conditions)?;
+        let branches = self.all(branches)?;
+        let other = self.read(other)?;
+        Ok(choice_is_boolean(
+            self.names,
+            conditions.as_slice(),
+            branches.as_slice(),
+            &other,
+        ))
+    }
+
     /// Whether the root of an expression gives a Boolean.
     pub fn gives_boolean(&self, raw: &RawExpr) -> Result<bool, AllocError>
         ensures { IfOk result (λ taken. taken ≡ typing.is_type NameKind.Boolean (node.reading self.now.names.now raw.now).gives) }
@@ -154,28 +199,14 @@ impl<'a> Reader<'a> {
                 self.call_gives_boolean(called(name.as_bytes()), parts.as_slice())
             }
             RawExpr::Chain(parts, ops) => {
-                let parts = self.all(parts.as_slice())?;
-                Ok(chain_is_boolean(parts.as_slice(), ops.as_slice()))
+                self.chain_gives_boolean(parts.as_slice(), ops.as_slice())
             }
             RawExpr::Relation(_, left, right) => {
-                let left = self.read(left.get())?;
-                let right = self.read(right.get())?;
-                Ok(relation_is_boolean(&left, &right))
+                self.relation_gives_boolean(left.get(), right.get())
             }
-            RawExpr::Not(part) => {
-                let part = self.read(part.get())?;
-                Ok(inverse_is_boolean(&part))
-            }
+            RawExpr::Not(part) => self.inverse_gives_boolean(part.get()),
             RawExpr::If(conditions, branches, other) => {
-                let conditions = self.all(conditions.as_slice())?;
-                let branches = self.all(branches.as_slice())?;
-                let other = self.read(other.get())?;
-                Ok(choice_is_boolean(
-                    self.names,
-                    conditions.as_slice(),
-                    branches.as_slice(),
-                    &other,
-                ))
+                self.choice_gives_boolean(conditions.as_slice(), branches.as_slice(), other.get())
             }
             RawExpr::Neg(_) => Ok(false),
             RawExpr::Power(_, _) => Ok(false),

@@ -7,7 +7,7 @@ ghost use Rattle.flat_types.specs.Shapes as shapes;
 use crate::callee::{Callee, Operator};
 use crate::counters::counter;
 use crate::ends::TypeCode;
-use crate::named::{as_clock, as_value, component, kind_of_name};
+use crate::named::{component, kind_of_name};
 use crate::operators::{arithmetic, first_broken};
 use crate::outcome::Outcome;
 use flat_model::{ClockExpr, Conversion, Expr, FlatName, NameKind};
@@ -113,7 +113,7 @@ fn subsampled(names: &[FlatName], parts: &[Outcome]) -> Outcome
 {
     match parts {
         [part] => converted(names, part, Some(Conversion::Sub(0))),
-        [part, factor] => converted(names, part, counter(0, factor).map(|f| Conversion::Sub(f))),
+        [part, factor] => converted(names, part, counter(0, factor).map(Conversion::Sub)),
         _ => Outcome::Broken(TypeCode::Y3),
     }
 }
@@ -123,11 +123,7 @@ fn supersampled(names: &[FlatName], parts: &[Outcome]) -> Outcome
 {
     match parts {
         [part] => converted(names, part, Some(Conversion::Super(0))),
-        [part, factor] => converted(
-            names,
-            part,
-            counter(0, factor).map(|f| Conversion::Super(f)),
-        ),
+        [part, factor] => converted(names, part, counter(0, factor).map(Conversion::Super)),
         _ => Outcome::Broken(TypeCode::Y3),
     }
 }
@@ -201,10 +197,9 @@ fn apart(parts: List<Outcome>) -> Few
     let Some(first) = parts.pop() else {
         return Few::One(last);
     };
-    if parts.is_empty() {
-        Few::Two(first, last)
-    } else {
-        Few::More
+    match parts.is_empty().then_some((first, last)) {
+        Some((first, last)) => Few::Two(first, last),
+        None => Few::More,
     }
 }
 
@@ -216,10 +211,7 @@ fn sampled(
 ) -> Result<Outcome, AllocError>
     ensures { IfOk result (λ found. found ≡ spec.sampled part clock) }
 {
-    let Some((part, kind)) = part else {
-        return Ok(Outcome::Broken(TypeCode::Y1));
-    };
-    let Some(clock) = clock else {
+    let Some(((part, kind), clock)) = part.zip(clock) else {
         return Ok(Outcome::Broken(TypeCode::Y1));
     };
     Boxed::new(alloc, part).map(|part| Outcome::Valued(Expr::Sample(part, clock), kind))
@@ -230,10 +222,10 @@ fn sample(alloc: Global, names: &[FlatName], parts: List<Outcome>) -> Result<Out
     ensures { IfOk result (λ found. found ≡ node.sample_found names.now parts) }
 {
     match apart(parts) {
-        Few::One(part) => sampled(alloc, as_value(names, part), Some(None)),
+        Few::One(part) => sampled(alloc, part.into_value(names), Some(None)),
         Few::Two(part, clock) => {
-            let clock = as_clock(names, clock).map(|clock| Some(clock));
-            sampled(alloc, as_value(names, part), clock)
+            let clock = clock.into_clock(names).map(Some);
+            sampled(alloc, part.into_value(names), clock)
         }
         _ => Ok(Outcome::Broken(TypeCode::Y3)),
     }
@@ -256,16 +248,16 @@ fn rational(counter: Option<u32>, resolution: Option<u32>) -> Outcome
 fn clock_by(alloc: Global, names: &[FlatName], part: Outcome) -> Result<Outcome, AllocError>
     ensures { IfOk result (λ found. found ≡ spec.clock_by part (spec.as_value names.now part)) }
 {
-    let counted = rational(counter(0, &part), Some(1));
-    let Some((condition, kind)) = as_value(names, part) else {
-        return Ok(counted);
-    };
-    match kind {
-        NameKind::Boolean => Boxed::new(alloc, condition).map(|condition| Outcome::Clocked(
-            ClockExpr::Event(condition),
-        )),
-        NameKind::Integer => Ok(counted),
-        NameKind::Clock => Ok(counted),
+    let count = counter(0, &part);
+    match part.into_value(names) {
+        Some((condition, NameKind::Boolean)) => {
+            let condition = Boxed::new(alloc, condition)?;
+            Ok(Outcome::Clocked(ClockExpr::Event(condition)))
+        }
+        other => {
+            drop(other);
+            Ok(rational(count, Some(1)))
+        }
     }
 }
 

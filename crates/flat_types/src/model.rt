@@ -6,8 +6,8 @@ ghost use Rattle.flat_types.specs.Typed as spec;
 ghost use Rattle.flat_types.specs.Checked as checked;
 
 use crate::ends::{TypeCode, TypeEnd};
-use crate::named::{as_clock, as_value, type_of_part};
-use crate::operators::is_type;
+use crate::named::type_of_part;
+use crate::operators::{either_broken, is_type};
 use crate::outcome::Outcome;
 use crate::reader::Reader;
 use flat_model::{
@@ -37,10 +37,10 @@ fn copied_names(alloc: Global, names: &[FlatName]) -> Result<List<FlatName>, All
 fn clock_of(names: &[FlatName], part: Outcome) -> Result<ClockExpr, TypeCode>
     ensures { result ≡ spec.clock_by part (outcomes.as_clock names.now part) }
 {
-    if let Outcome::Broken(code) = part {
-        return Err(code);
+    if let Outcome::Broken(code) = &part {
+        return Err(*code);
     }
-    as_clock(names, part).ok_or(TypeCode::Y1)
+    part.into_clock(names).ok_or(TypeCode::Y1)
 }
 
 /// Two values of one type.
@@ -51,21 +51,15 @@ fn values(
 ) -> Result<Equation, TypeCode>
     ensures { result ≡ spec.values_by clause left right }
 {
-    let Some((left, kind)) = left else {
-        return Err(TypeCode::Y1);
+    let ((left, kind), (right, other)) = left.zip(right).ok_or(TypeCode::Y1)?;
+    let equation = Equation::Valued {
+        left,
+        right,
+        clause,
     };
-    let Some((right, other)) = right else {
-        return Err(TypeCode::Y1);
-    };
-    if is_type(kind, Some(other)) {
-        Ok(Equation::Valued {
-            left,
-            right,
-            clause,
-        })
-    } else {
-        Err(TypeCode::Y1)
-    }
+    is_type(kind, Some(other))
+        .then_some(equation)
+        .ok_or(TypeCode::Y1)
 }
 
 /// Two clocks.
@@ -76,12 +70,7 @@ fn clocks(
 ) -> Result<Equation, TypeCode>
     ensures { result ≡ spec.clocks_by clause left right }
 {
-    let Some(left) = left else {
-        return Err(TypeCode::Y1);
-    };
-    let Some(right) = right else {
-        return Err(TypeCode::Y1);
-    };
+    let (left, right) = left.zip(right).ok_or(TypeCode::Y1)?;
     Ok(Equation::Clocks {
         left,
         right,
@@ -98,16 +87,13 @@ fn equation_of(
 ) -> Result<Equation, TypeCode>
     ensures { result ≡ spec.equation_by names.now clause left right }
 {
-    if let Outcome::Broken(code) = left {
-        return Err(code);
-    }
-    if let Outcome::Broken(code) = right {
+    if let Some(code) = either_broken(&left, &right) {
         return Err(code);
     }
     if type_of_part(names, &left).is_none() && type_of_part(names, &right).is_none() {
-        clocks(clause, as_clock(names, left), as_clock(names, right))
+        clocks(clause, left.into_clock(names), right.into_clock(names))
     } else {
-        values(clause, as_value(names, left), as_value(names, right))
+        values(clause, left.into_value(names), right.into_value(names))
     }
 }
 

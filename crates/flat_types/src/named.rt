@@ -39,7 +39,7 @@ pub fn type_of_part(names: &[FlatName], part: &Outcome) -> Option<NameKind>
 }
 
 /// A name that stands bare.
-fn read_as(x: u32, kind: Option<NameKind>) -> Option<(Expr, NameKind)>
+pub fn read_as(x: u32, kind: Option<NameKind>) -> Option<(Expr, NameKind)>
     ensures { result ≡ spec.read_as x kind }
 {
     match kind? {
@@ -49,27 +49,12 @@ fn read_as(x: u32, kind: Option<NameKind>) -> Option<(Expr, NameKind)>
     }
 }
 
-/// A part as an expression with its type.
-pub fn as_value(names: &[FlatName], part: Outcome) -> Option<(Expr, NameKind)>
-    ensures { result ≡ spec.as_value names.now part }
+/// A Clock name as a clock.
+pub fn clock_named(x: u32, kind: Option<NameKind>) -> Option<ClockExpr>
+    ensures { result ≡ spec.clock_named x kind }
 {
-    match part {
-        Outcome::Name(x) => read_as(x, kind_of_name(names, x)),
-        Outcome::Valued(expr, kind) => Some((expr, kind)),
-        _ => None,
-    }
-}
-
-/// A part as a clock.
-pub fn as_clock(names: &[FlatName], part: Outcome) -> Option<ClockExpr>
-    ensures { result ≡ spec.as_clock names.now part }
-{
-    match part {
-        Outcome::Name(x) => match kind_of_name(names, x) {
-            Some(NameKind::Clock) => Some(ClockExpr::Name(x)),
-            _ => None,
-        },
-        Outcome::Clocked(clock) => Some(clock),
+    match kind? {
+        NameKind::Clock => Some(ClockExpr::Name(x)),
         _ => None,
     }
 }

@@ -8,7 +8,7 @@ ghost use Rattle.flat_types.specs.Readings as node;
 ghost use Rattle.flat_types.specs.Shapes as shapes;
 
 use crate::ends::TypeCode;
-use crate::named::{as_value, type_of_part};
+use crate::named::type_of_part;
 use crate::outcome::Outcome;
 use flat_model::{Expr, FlatName, Fun, NameKind};
 use sqlite_items::Boxed;
@@ -197,7 +197,7 @@ fn as_values(
 {
     let mut found = List::new(alloc);
     for part in parts.into_vec() {
-        match as_value(names, part) {
+        match part.into_value(names) {
             Some((expr, _)) => found.push(expr)?,
             None => return Ok(None),
         }
@@ -209,9 +209,9 @@ fn as_values(
 fn made(kind: Option<NameKind>, expr: Option<Expr>) -> Outcome
     ensures { result ≡ spec.made kind expr }
 {
-    match (kind, expr) {
-        (Some(kind), Some(expr)) => Outcome::Valued(expr, kind),
-        _ => Outcome::Broken(TypeCode::Y1),
+    match kind.zip(expr) {
+        Some((kind, expr)) => Outcome::Valued(expr, kind),
+        None => Outcome::Broken(TypeCode::Y1),
     }
 }
 
@@ -251,7 +251,8 @@ fn chained(
     let Some(parts) = parts else {
         return Ok(None);
     };
-    Vec::from_slice(alloc, ops).map(|ops| Some(Expr::Chain(parts, List::from_vec(ops))))
+    let ops = Vec::from_slice(alloc, ops)?;
+    Ok(Some(Expr::Chain(parts, List::from_vec(ops))))
 }
 
 /// A chain, where its parts break no rule.
@@ -283,10 +284,7 @@ fn related(
 ) -> Result<Option<Expr>, AllocError>
     ensures { IfOk result (λ it. it ≡ node.both_of (λ a b. tree.Relation rel a b) left right) }
 {
-    let Some((left, _)) = left else {
-        return Ok(None);
-    };
-    let Some((right, _)) = right else {
+    let Some(((left, _), (right, _))) = left.zip(right) else {
         return Ok(None);
     };
     let left = Boxed::new(alloc, left);
@@ -308,7 +306,7 @@ pub fn relation(
         return Ok(Outcome::Broken(code));
     }
     let kind = relation_type(type_of_part(names, &left), type_of_part(names, &right));
-    let expr = related(alloc, rel, as_value(names, left), as_value(names, right))?;
+    let expr = related(alloc, rel, left.into_value(names), right.into_value(names))?;
     Ok(made(kind, expr))
 }
 
@@ -327,24 +325,24 @@ pub fn either_broken(left: &Outcome, right: &Outcome) -> Option<TypeCode>
 pub fn negated(alloc: Global, names: &[FlatName], part: Outcome) -> Result<Outcome, AllocError>
     ensures { IfOk result (λ found. found ≡ node.after_one part (node.single_found names.now (λ it. tree.Neg it) NameKind.Integer part)) }
 {
-    if let Outcome::Broken(code) = part {
+    if let Some(code) = broken(&part) {
         return Ok(Outcome::Broken(code));
     }
     let kind = same_type(NameKind::Integer, type_of_part(names, &part));
-    let part = boxed(alloc, as_value(names, part))?;
-    Ok(made(kind, part.map(|part| Expr::Neg(part))))
+    let part = boxed(alloc, part.into_value(names))?;
+    Ok(made(kind, part.map(Expr::Neg)))
 }
 
 /// What is not, where it breaks no rule.
 pub fn inverted(alloc: Global, names: &[FlatName], part: Outcome) -> Result<Outcome, AllocError>
     ensures { IfOk result (λ found. found ≡ node.after_one part (node.single_found names.now (λ it. tree.Not it) NameKind.Boolean part)) }
 {
-    if let Outcome::Broken(code) = part {
+    if let Some(code) = broken(&part) {
         return Ok(Outcome::Broken(code));
     }
     let kind = same_type(NameKind::Boolean, type_of_part(names, &part));
-    let part = boxed(alloc, as_value(names, part))?;
-    Ok(made(kind, part.map(|part| Expr::Not(part))))
+    let part = boxed(alloc, part.into_value(names))?;
+    Ok(made(kind, part.map(Expr::Not)))
 }
 
 /// A choice of these parts.
@@ -356,16 +354,11 @@ fn chosen(
 ) -> Result<Option<Expr>, AllocError>
     ensures { IfOk result (λ it. it ≡ node.all_three conditions branches other) }
 {
-    let Some(conditions) = conditions else {
+    let Some(((conditions, branches), (other, _))) = conditions.zip(branches).zip(other) else {
         return Ok(None);
     };
-    let Some(branches) = branches else {
-        return Ok(None);
-    };
-    let Some((other, _)) = other else {
-        return Ok(None);
-    };
-    Boxed::new(alloc, other).map(|other| Some(Expr::If(conditions, branches, other)))
+    let other = Boxed::new(alloc, other)?;
+    Ok(Some(Expr::If(conditions, branches, other)))
 }
 
 /// A choice, where its parts break no rule.
@@ -389,8 +382,8 @@ pub fn choice(
     );
     let conditions = as_values(alloc, names, conditions);
     let branches = as_values(alloc, names, branches);
-    let other = as_value(names, other);
-    Ok(made(kind, chosen(alloc, conditions?, branches?, other)?))
+    let expr = chosen(alloc, conditions?, branches?, other.into_value(names))?;
+    Ok(made(kind, expr))
 }
 
 /// A call of an arithmetic function, whose arguments break no rule.
@@ -407,6 +400,9 @@ pub fn arithmetic(
     }
     let taken = are_of_type(names, NameKind::Integer, parts.as_slice());
     let parts = as_values(alloc, names, parts)?;
-    let call = parts.map(|parts| Expr::Apply(function, parts));
+    let call = match parts {
+        Some(parts) => Some(Expr::Apply(function, parts)),
+        None => None,
+    };
     Ok(made(taken.then_some(NameKind::Integer), call))
 }

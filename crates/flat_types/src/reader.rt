@@ -11,7 +11,7 @@ use crate::counters::counter;
 use crate::ends::TypeCode;
 use crate::named::{component, kind_of_name};
 use crate::operators::{
-    chain, choice, either_broken, first_broken, inverted, negated, relation, type_of_value,
+    broken, chain, choice, either_broken, first_broken, inverted, negated, relation, type_of_value,
 };
 use crate::outcome::Outcome;
 use flat_model::{Expr, FlatName, NameKind, RawExpr};
@@ -48,9 +48,9 @@ fn interval_first(interval: Result<Option<u32>, TypeCode>, k: Outcome) -> Outcom
 {
     match interval {
         Err(code) => Outcome::Broken(code),
-        Ok(u) => match k {
-            Outcome::Broken(code) => Outcome::Broken(code),
-            k => interval_times(u, &k),
+        Ok(u) => match broken(&k) {
+            Some(code) => Outcome::Broken(code),
+            None => interval_times(u, &k),
         },
     }
 }
@@ -59,9 +59,9 @@ fn interval_first(interval: Result<Option<u32>, TypeCode>, k: Outcome) -> Outcom
 fn interval_second(k: Outcome, interval: Result<Option<u32>, TypeCode>) -> Outcome
     ensures { result ≡ node.of_product (node.second_interval k interval) }
 {
-    match k {
-        Outcome::Broken(code) => Outcome::Broken(code),
-        k => match interval {
+    match broken(&k) {
+        Some(code) => Outcome::Broken(code),
+        None => match interval {
             Err(code) => Outcome::Broken(code),
             Ok(u) => interval_times(u, &k),
         },
@@ -72,10 +72,7 @@ fn interval_second(k: Outcome, interval: Result<Option<u32>, TypeCode>) -> Outco
 fn no_product(part: Outcome) -> Outcome
     ensures { result ≡ node.after_one part (Outcome.Broken TypeCode.Y1) }
 {
-    match part {
-        Outcome::Broken(code) => Outcome::Broken(code),
-        _ => Outcome::Broken(TypeCode::Y1),
-    }
+    Outcome::Broken(broken(&part).unwrap_or(TypeCode::Y1))
 }
 
 /// One part by itself.
@@ -205,7 +202,7 @@ impl<'a> Reader<'a> {
         match parts {
             [part] => {
                 let part = self.read(part)?;
-                Ok(interval_of(self.names, &part).map(|x| Some(x)))
+                Ok(interval_of(self.names, &part).map(Some))
             }
             _ => Ok(Ok(None)),
         }

@@ -2,4 +2,10 @@
 #![tactic(auto)]
 
 #[cfg(test)]
+mod clauses;
+#[cfg(test)]
+mod counters;
+#[cfg(test)]
+mod models;
+#[cfg(test)]
 mod types;

@@ -1,37 +1,13 @@
-ghost use Rattle.std.specs.Prelude.{◌≡◌, ◌<◌, ◌^◌, [], length, IfOk};
-ghost use Rattle.flat_model.specs.RawModels.{AreClausesUsed};
-
-use flat_model::{FlatName, NameKind, RawEq, RawExpr, RawModel};
-use flat_types::{TypeCode, TypeEnd, answer_law, typed};
+use crate::models::Arg::{ByZero, IntervalFirst, IntervalSecond, Name, Number, Truth};
+use crate::models::{Arg, B, C, U, X, broken, call, chain};
+use flat_model::RawExpr;
+use flat_types::{TypeCode, answer_law};
 use sqlite_items::Boxed;
-use std::alloc::{AllocError, Global};
 use std::test::Fail;
-use sync_values::{ChainOp, List, Rel, Text, Value};
-
-/// An argument of a call: a number, the truth value true, a name, `div(1, 0)`, or a product with an interval of x.
-#[derive(Clone, Copy)]
-enum Arg {
-    Number(i64),
-    Truth,
-    Name(u32),
-    ByZero,
-    IntervalFirst,
-    IntervalSecond,
-}
-
-use Arg::{ByZero, IntervalFirst, IntervalSecond, Name, Number, Truth};
-
-/// The names of all cases: the Integer x, the input u, the Boolean b and the Clock c.
-const X: u32 = 0;
-
-const U: u32 = 1;
-
-const B: u32 = 2;
-
-const C: u32 = 3;
+use sync_values::{ChainOp, List, Rel, Value};
 
 /// The name on the left, the function called on the right, its arguments, and the rule that the equation breaks.
-const CALLS: [(u32, &[u8], &[Arg], Option<TypeCode>); 53] = [
+const CALLS: [(u32, &[u8], &[Arg], Option<TypeCode>); 93] = [
     (X, b"previous", &[Name(X)], None),
     (X, b"previous", &[], Some(TypeCode::Y3)),
     (X, b"previous", &[Name(X), Name(X)], Some(TypeCode::Y3)),
@@ -100,115 +76,62 @@ const CALLS: [(u32, &[u8], &[Arg], Option<TypeCode>); 53] = [
     (X, b"integer", &[IntervalSecond], None),
     (X, b"integer", &[Name(X)], Some(TypeCode::Y1)),
     (X, b"integer", &[Name(X), Name(X)], Some(TypeCode::Y3)),
+    (X, b"hold", &[], Some(TypeCode::Y3)),
+    (X, b"hold", &[Number(1)], Some(TypeCode::Y2)),
+    (X, b"hold", &[Name(C)], Some(TypeCode::Y1)),
+    (B, b"hold", &[Name(B)], None),
+    (X, b"noClock", &[], Some(TypeCode::Y3)),
+    (X, b"noClock", &[Number(1)], Some(TypeCode::Y2)),
+    (B, b"subSample", &[Name(B)], None),
+    (
+        X,
+        b"subSample",
+        &[Number(1), Number(-1)],
+        Some(TypeCode::Y2),
+    ),
+    (B, b"subSample", &[Name(X), Number(-1)], Some(TypeCode::Y4)),
+    (X, b"superSample", &[], Some(TypeCode::Y3)),
+    (X, b"superSample", &[Number(1)], Some(TypeCode::Y2)),
+    (C, b"superSample", &[Name(C), Number(2)], None),
+    (X, b"shiftSample", &[Name(U), Number(1)], Some(TypeCode::Y2)),
+    (X, b"shiftSample", &[Truth, Number(1)], Some(TypeCode::Y2)),
+    (X, b"backSample", &[Name(X)], Some(TypeCode::Y3)),
+    (X, b"backSample", &[Name(U), Number(1)], Some(TypeCode::Y2)),
+    (C, b"backSample", &[Name(C), Number(1), Number(2)], None),
+    (X, b"sample", &[], Some(TypeCode::Y3)),
+    (
+        X,
+        b"sample",
+        &[Name(U), Name(C), Name(C)],
+        Some(TypeCode::Y3),
+    ),
+    (B, b"sample", &[Name(B)], None),
+    (B, b"firstTick", &[Name(U)], None),
+    (B, b"firstTick", &[Name(C)], Some(TypeCode::Y1)),
+    (B, b"firstTick", &[Name(X), Name(X)], Some(TypeCode::Y3)),
+    (X, b"firstTick", &[], Some(TypeCode::Y1)),
+    (
+        C,
+        b"Clock",
+        &[Number(1), Number(2), Number(3)],
+        Some(TypeCode::Y3),
+    ),
+    (C, b"Clock", &[Number(0), Number(0)], Some(TypeCode::Y4)),
+    (X, b"div", &[Name(X), Truth], Some(TypeCode::Y1)),
+    (X, b"mod", &[Name(X), Name(U)], None),
+    (X, b"rem", &[Name(X), Name(C)], Some(TypeCode::Y1)),
+    (X, b"abs", &[Name(X)], None),
+    (X, b"abs", &[Name(X), Name(X)], Some(TypeCode::Y3)),
+    (X, b"min", &[Name(X), Name(U)], None),
+    (B, b"max", &[Name(X), Name(U)], Some(TypeCode::Y1)),
+    (X, b"interval", &[Name(X)], Some(TypeCode::Y5)),
+    (B, b"edge", &[Name(B)], Some(TypeCode::Y5)),
+    (B, b"change", &[], Some(TypeCode::Y5)),
+    (X, b"delay", &[Name(X), Number(1)], Some(TypeCode::Y5)),
+    (X, b"noEvent", &[Name(X)], Some(TypeCode::Y5)),
+    (X, b"smooth", &[Number(0), Name(X)], Some(TypeCode::Y5)),
+    (X, b"integer", &[], Some(TypeCode::Y3)),
 ];
-
-fn name(
-    alloc: Global,
-    text: &[u8],
-    kind: NameKind,
-    input: bool,
-    start: Value,
-) -> Result<FlatName, AllocError> {
-    Text::from_bytes(alloc, text).map(|text| FlatName {
-        text,
-        kind,
-        input,
-        start,
-    })
-}
-
-fn names(alloc: Global) -> Result<List<FlatName>, AllocError> {
-    let mut names = List::new(alloc);
-    names.push(name(alloc, b"x", NameKind::Integer, false, Value::Int(0))?)?;
-    names.push(name(alloc, b"u", NameKind::Integer, true, Value::Int(0))?)?;
-    names.push(name(alloc, b"b", NameKind::Boolean, false, Value::Bool(false))?)?;
-    names.push(name(alloc, b"c", NameKind::Clock, false, Value::Int(0))?)?;
-    Ok(names)
-}
-
-/// A chain of two parts.
-fn chain(alloc: Global, a: RawExpr, op: ChainOp, b: RawExpr) -> Result<RawExpr, AllocError> {
-    let mut parts = List::new(alloc);
-    let mut ops = List::new(alloc);
-    let first = parts.push(a);
-    let second = parts.push(b);
-    ops.push(op)?;
-    first.and(second).map(|()| RawExpr::Chain(parts, ops))
-}
-
-/// A call of two numbers or of one name.
-fn call_of(
-    alloc: Global,
-    function: &[u8],
-    a: RawExpr,
-    b: Option<RawExpr>,
-) -> Result<RawExpr, AllocError> {
-    let mut parts = List::new(alloc);
-    let mut pushed = parts.push(a);
-    if let Some(b) = b {
-        pushed = pushed.and(parts.push(b));
-    }
-    let text = Text::from_bytes(alloc, function);
-    pushed.and(text).map(|text| RawExpr::Call(text, parts))
-}
-
-fn argument(alloc: Global, arg: Arg) -> Result<RawExpr, AllocError> {
-    match arg {
-        Number(n) => Ok(RawExpr::Const(Value::Int(n))),
-        Truth => Ok(RawExpr::Const(Value::Bool(true))),
-        Name(x) => Ok(RawExpr::Name(x)),
-        ByZero => {
-            let zero = RawExpr::Const(Value::Int(0));
-            call_of(alloc, b"div", RawExpr::Const(Value::Int(1)), Some(zero))
-        }
-        IntervalFirst => {
-            let interval = call_of(alloc, b"interval", RawExpr::Name(X), None)?;
-            chain(
-                alloc,
-                interval,
-                ChainOp::Times,
-                RawExpr::Const(Value::Int(2)),
-            )
-        }
-        IntervalSecond => {
-            let interval = call_of(alloc, b"interval", RawExpr::Name(X), None)?;
-            chain(
-                alloc,
-                RawExpr::Const(Value::Int(2)),
-                ChainOp::Times,
-                interval,
-            )
-        }
-    }
-}
-
-fn call(alloc: Global, function: &[u8], args: &[Arg]) -> Result<RawExpr, AllocError> {
-    let mut parts = List::new(alloc);
-    for arg in args {
-        parts.push(argument(alloc, *arg)?)?;
-    }
-    Text::from_bytes(alloc, function).map(|text| RawExpr::Call(text, parts))
-}
-
-/// The rule that a model of one equation breaks; none where it has types.
-fn broken(alloc: Global, left: RawExpr, right: RawExpr) -> Result<Option<TypeCode>, TypeEnd> {
-    let mut equations = List::new(alloc);
-    equations.push(RawEq {
-        left,
-        right,
-        clause: None,
-    })?;
-    let raw = RawModel {
-        names: names(alloc)?,
-        equations,
-        clauses: List::new(alloc),
-    };
-    match typed(alloc, &raw) {
-        Ok(_) => Ok(None),
-        Err(TypeEnd::Fault { code, .. }) => Ok(Some(code)),
-        Err(TypeEnd::NoMemory) => Err(TypeEnd::NoMemory),
-    }
-}
 
 #[test]
 fn calls_have_their_arguments(rt: HostRuntime) -> Result<(), Fail> {

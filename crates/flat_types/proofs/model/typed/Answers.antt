@@ -1,4 +1,4 @@
-use Rattle.std.proofs.Common.{◌≡◌, ◌∙◌, sym, subst, map, Ok, Err}
+use Rattle.std.proofs.Common.{◌∙◌, subst, Ok}
 use Rattle.flat_types.specs.Checked.{AreChecked}
 use Rattle.flat_types.proofs.Answering.{ended, known_right, typed_so}
 use Rattle.flat_types.proofs.model.typed.Goals as goal

@@ -1,4 +1,4 @@
-use Rattle.std.proofs.Common.{length, ◌-◌, ◌≡◌, ◌≤◌, drop}
+use Rattle.std.proofs.Common.{length, ◌-◌, ◌≡◌, drop}
 use Rattle.flat_types.specs.Outcomes.{first_broken}
 use Rattle.flat_types.specs.Readings.{in_turn}
 use Rattle.flat_types.proofs.operators.first_broken_in_turn.Given as goal

@@ -1,8 +1,8 @@
-use Rattle.std.proofs.Common.{◌≡◌, ap, ap₂, ◌∙◌, sym, map}
+use Rattle.std.proofs.Common.{◌≡◌, ap, ◌∙◌, sym, map}
 use Rattle.flat_types.specs.declared.outcome.Outcome.TheVariants.{Valued}
 use Rattle.flat_model.specs.declared.expression.Expr.TheVariants as e
-use Rattle.flat_types.specs.Readings.{reading, node_of}
-use Rattle.flat_types.proofs.Nodes.{node-Const, node-Name, node-Call, node-Chain, node-Relation, node-Neg, node-Not, node-Power, node-If, node-Time, nodes_found}
+use Rattle.flat_types.specs.Readings.{node_of}
+use Rattle.flat_types.proofs.Nodes.{node-Const, node-Name, node-Call, node-Chain, node-Relation, node-Neg, node-Not, node-Power, node-If, node-Time}
 use Rattle.flat_types.specs.declared.ends.TypeCode.TheVariants.{Y1, Y3}
 use Rattle.flat_types.specs.declared.outcome.Outcome.TheVariants.{Broken}
 use Rattle.flat_types.specs.Readings.{after, after_one, of_product, first_interval, second_interval, integer_found}

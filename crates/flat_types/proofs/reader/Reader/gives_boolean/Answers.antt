@@ -1,9 +1,9 @@
-use Rattle.std.proofs.Common.{◌≡◌, refl, ap, ◌∙◌, sym, map, [], ◌∷◌, Some, None, true, false, Bool}
+use Rattle.std.proofs.Common.{◌≡◌, refl, ap, ◌∙◌, sym, [], ◌∷◌, Some, None, true, false, Bool}
 use Rattle.std.specs.Prelude.{is_none, if◌then◌else◌}
 use Rattle.flat_model.specs.declared.model.NameKind.TheVariants as kind
 use Rattle.flat_model.specs.Typing.{is_type}
 use Rattle.flat_types.specs.Outcomes.{first_broken}
-use Rattle.flat_types.specs.Readings.{node_of, given, chain_gives, choice_gives}
+use Rattle.flat_types.specs.Readings.{node_of}
 use Rattle.flat_types.proofs.Nodes.{reading-Const, reading-Name, reading-Call, reading-Chain, reading-Relation, reading-Neg, reading-Not, reading-Power, reading-If, reading-Time, nodes_found}
 use Rattle.flat_types.proofs.reader.Reader.gives_boolean.Goals as goal
 
@@ -16,32 +16,30 @@ returns-in-Name c = rw (c.in-Name.is, reading-Name c.args.self.now.names.now c.i
 pub returns-in-Call : goal.returns-in-Call
 returns-in-Call c = rw (c.in-Call.is, reading-Call c.args.self.now.names.now c.in-Call.name c.in-Call.parts, ← c.as_bytes.ensures, ← c.called.ensures, ← c.as_slice.ensures) c.call_gives_boolean.ensures
 
-pub returns-in_ok-parts-in-Chain : goal.returns-in_ok-parts-in-Chain
-returns-in_ok-parts-in-Chain c =
-    let parts : c.as_slice-in-Chain-2.result.now ≡ map (node_of c.args.self.now.names.now) c.in-Chain.parts =
-    c.as_slice-in-Chain-2.ensures ∙ c.in_ok-parts-in-Chain.ensures ∙ ap (map (node_of c.args.self.now.names.now)) c.as_slice-in-Chain.ensures in
-    rw (c.in-Chain.is, reading-Chain c.args.self.now.names.now c.in-Chain.parts c.in-Chain.ops, nodes_found c.args.self.now.names.now c.in-Chain.parts, ← parts, ← c.as_slice-in-Chain-3.ensures) c.chain_is_boolean.ensures
+pub returns-in-Chain : goal.returns-in-Chain
+returns-in-Chain c =
+    rw (c.in-Chain.is, reading-Chain c.args.self.now.names.now c.in-Chain.parts c.in-Chain.ops, nodes_found c.args.self.now.names.now c.in-Chain.parts, ← c.as_slice-in-Chain.ensures, ← c.as_slice-in-Chain-2.ensures)
+    c.chain_gives_boolean.ensures
 
-pub returns-in_ok-right-in-Relation : goal.returns-in_ok-right-in-Relation
-returns-in_ok-right-in-Relation c =
-    let left : c.in_ok-left-in-Relation.left ≡ node_of c.args.self.now.names.now c.in-Relation.left = c.in_ok-left-in-Relation.ensures ∙ ap (node_of c.args.self.now.names.now) c.get.ensures in
-    let right : c.in_ok-right-in-Relation.right ≡ node_of c.args.self.now.names.now c.in-Relation.right = c.in_ok-right-in-Relation.ensures ∙ ap (node_of c.args.self.now.names.now) c.get-in-Relation.ensures in
-    rw (c.in-Relation.is, reading-Relation c.args.self.now.names.now c.in-Relation.field-0 c.in-Relation.left c.in-Relation.right, ← left, ← right) c.relation_is_boolean.ensures
+pub returns-in-Relation : goal.returns-in-Relation
+returns-in-Relation c =
+    rw (c.in-Relation.is, reading-Relation c.args.self.now.names.now c.in-Relation.field-0 c.in-Relation.left c.in-Relation.right, ← c.get.ensures, ← c.get-in-Relation.ensures) c.relation_gives_boolean.ensures
 
-pub returns-in_ok-part-in-Not : goal.returns-in_ok-part-in-Not
-returns-in_ok-part-in-Not c =
-    let part : c.in_ok-part-in-Not.part ≡ node_of c.args.self.now.names.now c.in-Not.part = c.in_ok-part-in-Not.ensures ∙ ap (node_of c.args.self.now.names.now) c.get-in-Not.ensures in
-    rw (c.in-Not.is, reading-Not c.args.self.now.names.now c.in-Not.part, ← part) c.inverse_is_boolean.ensures
+pub returns-in-Not : goal.returns-in-Not
+returns-in-Not c = rw (c.in-Not.is, reading-Not c.args.self.now.names.now c.in-Not.part, ← c.get-in-Not.ensures) c.inverse_gives_boolean.ensures
 
-pub returns-in_ok-other-in-If : goal.returns-in_ok-other-in-If
-returns-in_ok-other-in-If c =
-    let conditions : c.as_slice-in-If-3.result.now ≡ map (node_of c.args.self.now.names.now) c.in-If.conditions =
-    c.as_slice-in-If-3.ensures ∙ c.in_ok-conditions-in-If.ensures ∙ ap (map (node_of c.args.self.now.names.now)) c.as_slice-in-If.ensures in
-    let branches : c.as_slice-in-If-4.result.now ≡ map (node_of c.args.self.now.names.now) c.in-If.branches =
-    c.as_slice-in-If-4.ensures ∙ c.in_ok-branches-in-If.ensures ∙ ap (map (node_of c.args.self.now.names.now)) c.as_slice-in-If-2.ensures in
-    let other : c.in_ok-other-in-If.other ≡ node_of c.args.self.now.names.now c.in-If.other = c.in_ok-other-in-If.ensures ∙ ap (node_of c.args.self.now.names.now) c.get-in-If.ensures in
-    rw (c.in-If.is, reading-If c.args.self.now.names.now c.in-If.conditions c.in-If.branches c.in-If.other, nodes_found c.args.self.now.names.now c.in-If.conditions, nodes_found c.args.self.now.names.now c.in-If.branches, ← conditions, ← branches, ← other)
-    c.choice_is_boolean.ensures
+pub returns-in-If : goal.returns-in-If
+returns-in-If c =
+    rw (
+      c.in-If.is,
+      reading-If c.args.self.now.names.now c.in-If.conditions c.in-If.branches c.in-If.other,
+      nodes_found c.args.self.now.names.now c.in-If.conditions,
+      nodes_found c.args.self.now.names.now c.in-If.branches,
+      ← c.as_slice-in-If.ensures,
+      ← c.as_slice-in-If-2.ensures,
+      ← c.get-in-If.ensures,
+    )
+    c.choice_gives_boolean.ensures
 
 by_broken : (b : Bool) → is_type kind.Boolean (if b then Some kind.Integer else None) ≡ false
 by_broken true = refl
