@@ -1,1 +1,4 @@
+pub mod Levels
+pub mod Rests
 pub mod Same
+pub mod Staged
