@@ -10,5 +10,5 @@ mod resting;
 mod stage;
 
 pub use division::stages;
-pub use law::{answer_law, moment_law};
+pub use law::{answer_law, moment_law, one_division_law, pure_law, stages_law};
 pub use stage::Stage;
