@@ -1,17 +1,16 @@
 -- The uses in the order of their stages are the order of a moment.
-use Rattle.std.proofs.Common.{◌≡◌, refl, ap, ap₂, ◌∙◌, sym, subst, ℕ, zero, suc, ◌<◌, ◌&&◌, ◌++◌, not, Bool, true, false, List, [], ◌∷◌, length, map, Option, Some, None, is_none, slice_get, if◌then◌else◌, Contains, Ok, inl, inr, arith}
-use Rattle.std.proofs.lemmas.Bool.{false≢true}
+use Rattle.std.proofs.Common.{◌≡◌, refl, ap, ap₂, ◌∙◌, sym, subst, ℕ, zero, suc, ◌<◌, ◌&&◌, ◌++◌, not, Bool, true, false, List, [], ◌∷◌, length, map, Option, Some, None, is_none, slice_get, if◌then◌else◌, Ok, inl, inr, arith}
 use Rattle.std.proofs.lemmas.Option.{none-some}
 use Rattle.eq_order.specs.declared.uses.Use as answered
 use Rattle.eq_order.specs.Order.{use_of, Answers}
 use Rattle.flat_model.specs.Runnable.{IsClassBelow, IsRunnable}
 use Rattle.flat_model.specs.Setting.{Setting, flattened, class_of_equation, partition_of}
 use Rattle.flat_model.specs.Uses.{Use}
-use Rattle.moment_theory.specs.Division.{uses_where, IsReachedWhere, ArePure, AreUnheld, ArePartitionsBelow, is_number, is_of_partition, is_waiting, parts_from, joined, moment_order}
+use Rattle.moment_theory.specs.Division.{uses_where, ArePure, AreUnheld, ArePartitionsBelow, is_number, is_of_partition, is_waiting, parts_from, joined, moment_order}
 use Rattle.moment_theory.specs.Free.{IsOrdered}
 use Rattle.moment_theory.proofs.Divided.{order_free, order_same}
 use Rattle.moment_theory.proofs.FromRunnable.{all_at, element}
-use Rattle.moment_theory.proofs.Members.{IsMember, contains_member, member_contains}
+use Rattle.moment_theory.proofs.Members.{IsMember, member_contains}
 use Rattle.moment_theory.proofs.Unheld.{unheld_pure}
 use Rattle.moment_order.specs.declared.stage.Stage.{Stage}
 use Rattle.moment_order.specs.declared.stage.Stage.TheVariants.{Pure, Partition, Waiting}

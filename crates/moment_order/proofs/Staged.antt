@@ -1,25 +1,24 @@
 -- The stages that are found one after the other are those of the largest set of uses that rest on no clock.
-use Rattle.std.proofs.Common.{◌≡◌, ◌≢◌, refl, ap, ap₂, ◌∙◌, sym, subst, ℕ, zero, suc, ◌<◌, ◌||◌, ◌&&◌, not, Bool, true, false, List, [], ◌∷◌, length, map, get_or, set, Option, Some, None, is_none, slice_get, replicate, if◌then◌else◌, Contains, ◌⊎◌, inl, inr, arith}
+use Rattle.std.proofs.Common.{◌≡◌, refl, ap, ap₂, ◌∙◌, sym, subst, ℕ, zero, suc, ◌<◌, ◌||◌, not, Bool, true, false, List, [], ◌∷◌, length, map, set, Option, Some, None, is_none, slice_get, replicate, if◌then◌else◌, Contains, ◌⊎◌, inl, inr, arith}
 use Rattle.std.proofs.lemmas.Bool.{false≢true, cases_eq, and_parts, and_from}
 use Rattle.std.proofs.lemmas.List.{get_or-set_same, get_or-set_other, length-set, length-replicate}
-use Rattle.std.proofs.lemmas.Option.{same_Some, none-some, slice_get_within}
+use Rattle.std.proofs.lemmas.Option.{slice_get_within}
 use Rattle.flat_model.specs.declared.equation.Equation.{Equation}
 use Rattle.flat_model.specs.declared.equation.Equation.TheVariants.{Valued, Clocks}
 use Rattle.flat_model.specs.declared.expression.Expr.{Expr}
-use Rattle.flat_model.specs.Occurrences.{bare_count, held_count, converted_count}
-use Rattle.flat_model.specs.Setting.{Setting, flattened, class_of_equation, partition_of}
-use Rattle.flat_model.specs.Uses.{Use, ReadsIn, EquationReads, Reads, AreUses}
+use Rattle.flat_model.specs.Occurrences.{bare_count}
+use Rattle.flat_model.specs.Setting.{Setting, class_of_equation, partition_of}
+use Rattle.flat_model.specs.Uses.{Use, ReadsIn, EquationReads, AreUses}
 use Rattle.eq_orient.specs.declared.standing.Manner.{Manner}
 use Rattle.eq_orient.specs.declared.standing.Manner.TheVariants as manner
 use Rattle.eq_orient.specs.Spine.{count_in}
-use Rattle.moment_theory.specs.Division.{IsReachedWhere}
 use Rattle.moment_theory.specs.Free.{AsksLastIn, AsksLast, IsReachedBy}
-use Rattle.moment_theory.proofs.Facts.{UseFacts, facts_of_use}
+use Rattle.moment_theory.proofs.Facts.{facts_of_use}
 use Rattle.moment_theory.proofs.FromUses.{AreReadFree, read_free}
 use Rattle.moment_theory.proofs.Members.{IsMember, contains_member, member_contains, reached_member, member_reached}
 use Rattle.moment_order.specs.declared.stage.Stage.{Stage}
 use Rattle.moment_order.specs.Stages.{AreClockless, AreLargest, stage_in, stage_of, AreStages}
-use Rattle.moment_order.specs.private.Resting.{is_late, rests, equation_rests, rests_at, place_in, is_pure_at, is_pure_in, late_after, stage_at, stages_from}
+use Rattle.moment_order.specs.private.Resting.{is_late, rests, equation_rests, rests_at, place_in, is_pure_in, late_after, stages_from}
 use Rattle.moment_order.proofs.Rests.{ties, told}
 
 -- ---- flags
@@ -194,11 +193,14 @@ module _ (s : Setting) where
   settled : (uses : List Use) (late : List Bool) → HaveFlags (length late) uses → AreReadFree s uses → ((y : ℕ) → IsReachedBy y uses → is_late late y ≡ true → ⊥)
       → AtTurns (IsSettled (last_flags late uses)) late uses
   settled [] late have free fresh = tt
-  settled (entry ∷ uses) late have free fresh = ((known (turn late entry) refl, unreached), settled uses (after late entry) later_have free.2
-      (λ y reached is. elim (after_was late entry y is) [
-        | inl was ↦ fresh y (inr reached) was
-        | inr own ↦ free.1 (subst (λ z. IsReachedBy z uses) own.0 reached)
-      ]))
+  settled (entry ∷ uses) late have free fresh = (
+    (known (turn late entry) refl, unreached),
+    settled uses (after late entry) later_have free.2
+        (λ y reached is. elim (after_was late entry y is) [
+          | inl was ↦ fresh y (inr reached) was
+          | inr own ↦ free.1 (subst (λ z. IsReachedBy z uses) own.0 reached)
+        ]),
+  )
     where
       within : entry.name < length late
       within = have entry (inl refl)
@@ -341,8 +343,8 @@ module _ (s : Setting) where
         | inr own ↦ (
           subst (λ z. IsReachedBy z uses) (sym own.0) (reached_member uses first member),
           λ e e_member same passes.
-          let is_first : e ≡ first = one_reach uses free e first e_member member (sym same ∙ own.0) in
-          impure_out late first out member own.1 (sym (ap other is_first) ∙ passes),
+              let is_first : e ≡ first = one_reach uses free e first e_member member (sym same ∙ own.0) in
+              impure_out late first out member own.1 (sym (ap other is_first) ∙ passes),
         )
       ]
 

@@ -1,4 +1,4 @@
-use Rattle.std.proofs.Common.{◌≡◌, ◌∙◌, ap, ap₂, sym, subst, ◌++◌, append-nil, map, length, false, replicate, drop, [], arith}
+use Rattle.std.proofs.Common.{◌≡◌, ◌∙◌, ap, ap₂, sym, ◌++◌, append-nil, map, length, false, replicate, drop, [], arith}
 use Rattle.std.proofs.lemmas.List.{drop_all}
 use Rattle.eq_order.specs.Order.{use_of}
 use Rattle.moment_order.specs.private.Resting.{stages_from}
