@@ -2,6 +2,8 @@
 #![tactic(auto)]
 
 #[cfg(test)]
+mod fine;
+#[cfg(test)]
 mod models;
 #[cfg(test)]
 mod orders;

@@ -1,9 +1,4 @@
-ghost use Rattle.std.specs.Prelude.{◌≡◌, ◌<◌, ◌^◌, true, [], ◌∷◌};
-ghost use Rattle.std.specs.Int.{◌∣◌};
-ghost use Rattle.rational_time.specs.Fraction.{ArePartsBelow};
-ghost use Rattle.rational_time.specs.Multiple.{AllDivide};
-ghost use Rattle.flat_model.specs.Runnable.{AreClocks, CanRun, denominators};
-
+use crate::fine::are_clocks;
 use crate::models::Side::{
     BackPlusOne, Doubled, Held, Name, NoClock, Number, Previous, Sampled, Shifted, Sum,
     TakenFromTen,
@@ -12,9 +7,8 @@ use crate::models::Ticks::{Risings, Seconds};
 use crate::models::{Model, Side, Ticks, clocking, flat_model};
 use eq_order::kinds::Order;
 use eq_order::{OrderCode, OrderEnd, Use, order};
-use flat_model::{Clock, Clocking, Expr, Place};
+use flat_model::Place;
 use moment_order::{Stage, one_division_law, pure_law, stages, stages_law};
-use rational_time::Ratio;
 use std::alloc::Global;
 use std::process::Abort;
 use sync_values::List;
@@ -30,40 +24,6 @@ enum Wanted {
 
 use Stage::{Partition, Pure, Waiting};
 use Wanted::{AtEquation, AtName, Uses};
-
-fn is_small(value: Ratio, grid: u64) -> bool
-    ensures { result ≡ true → ArePartsBelow (2 ^ 40) value × (value.den ∣ grid) }
-{
-    value.num() < 4096 && value.den() < 1 << 24 && grid % value.den() == 0
-}
-
-fn can_run(sites: &[Expr], clock: Clock, grid: u64) -> bool
-    ensures { result ≡ true → CanRun sites.now clock × AllDivide (denominators (clock ∷ [])) grid }
-{
-    match clock {
-        Clock::Periodic { period, start } => 0 < period.num()
-            && is_small(period, grid)
-            && is_small(start, grid),
-        Clock::Event {
-            site,
-            factor,
-            shift,
-        } => (site as usize) < sites.len() && 0 < factor && factor < 4096 && shift < 4096,
-    }
-}
-
-fn are_clocks(clocking: &Clocking, grid: u64) -> bool
-    requires positive { 0 < grid }
-    requires below { grid < 2 ^ 40 }
-    ensures { result ≡ true → AreClocks clocking.now }
-{
-    for clock in clocking.clocks.as_slice() {
-        if !can_run(clocking.sites.as_slice(), *clock, grid) {
-            return false;
-        }
-    }
-    true
-}
 
 fn are_uses(order: &[Use], wanted: &[(u32, u32, bool, Stage)]) -> bool {
     for (i, (equation, name, left, _)) in wanted.iter().enumerate() {
@@ -102,7 +62,7 @@ fn assert_case(rt: &impl Abort, alloc: Global, model: &Model, wanted: &Wanted) {
     let flat = flat_model(rt, alloc, model);
     let clocking = clocking(rt, alloc, model);
     assert!(rt; flat.equations.len() <= 5);
-    assert!(rt; 0 < model.grid && model.grid < 1 << 24);
+    assert!(rt; 0 < model.grid && model.grid < 1 << 40);
     assert!(rt; are_clocks(&clocking, model.grid));
     let answer = order(alloc, &flat, &clocking);
     match wanted {

@@ -1,8 +1,8 @@
 use Rattle.std.proofs.Common.{◌≡◌, ◌∙◌, refl, ap, sym, subst, inl, inr, Some, length, slice_get, arith}
 use Rattle.std.proofs.lemmas.Bool.{cases_eq}
 use Rattle.std.proofs.lemmas.Option.{same_Some, slice_get_read, slice_get_within}
-use Rattle.order_tests.proofs.Fine.{IsFine, all_fine}
-use Rattle.order_tests.proofs.orders.are_clocks.Goals as goal
+use Rattle.order_tests.proofs.Grids.{IsFine, all_fine}
+use Rattle.order_tests.proofs.fine.are_clocks.Goals as goal
 
 pub loop-clock-preserved : goal.loop-clock-preserved
 loop-clock-preserved c = λ k clock below found.
