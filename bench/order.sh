@@ -41,7 +41,8 @@ use std::process::{Abort, ExitCode};
 use sync_values::{ChainOp, List, Text, Value};
 
 /// A model with its clocking.
-struct Made {
+#[derive(Drop)]
+struct Large {
     flat: FlatModel,
     clocking: Clocking,
 }
@@ -59,7 +60,7 @@ fn name(alloc: Global) -> Result<FlatName, AllocError> {
 }
 
 /// A model of so many names without equations, each name in the class of its number, or none in one.
-fn bare(alloc: Global, count: u32, clocked: bool) -> Result<Made, AllocError> {
+fn bare(alloc: Global, count: u32, clocked: bool) -> Result<Large, AllocError> {
     let mut names = List::new(alloc);
     let mut of_name = List::new(alloc);
     let mut of_equation = List::new(alloc);
@@ -69,7 +70,7 @@ fn bare(alloc: Global, count: u32, clocked: bool) -> Result<Made, AllocError> {
         of_name.push(class)?;
         of_equation.push(class)?;
     }
-    Ok(Made {
+    Ok(Large {
         flat: FlatModel {
             names,
             equations: List::new(alloc),
@@ -94,7 +95,7 @@ fn sum(alloc: Global, first: Expr, second: Expr) -> Result<Expr, AllocError> {
     Ok(Expr::Chain(parts, ops))
 }
 
-fn add(made: &mut Made, left: u32, right: Expr) -> Result<(), AllocError> {
+fn add(made: &mut Large, left: u32, right: Expr) -> Result<(), AllocError> {
     made.flat.equations.push(Equation::Valued {
         left: Expr::Read(left),
         right,
@@ -104,7 +105,7 @@ fn add(made: &mut Made, left: u32, right: Expr) -> Result<(), AllocError> {
 }
 
 /// Each name is the one behind it, and the last is a number.
-fn chain(alloc: Global) -> Result<Made, AllocError> {
+fn chain(alloc: Global) -> Result<Large, AllocError> {
     let mut made = bare(alloc, 65_536, false)?;
     for x in 0..65_535 {
         add(&mut made, x, Expr::Read(x + 1))?;
@@ -114,7 +115,7 @@ fn chain(alloc: Global) -> Result<Made, AllocError> {
 }
 
 /// The first name is the sum of all others, which are numbers.
-fn wide(alloc: Global) -> Result<Made, AllocError> {
+fn wide(alloc: Global) -> Result<Large, AllocError> {
     let mut made = bare(alloc, 5_001, false)?;
     let mut parts = List::new(alloc);
     let mut ops = List::new(alloc);
@@ -133,7 +134,7 @@ fn wide(alloc: Global) -> Result<Made, AllocError> {
 
 /// In each of two chains a name is the sum of the one before it in its own and in the other, the second chain given
 /// backwards.
-fn mutual(alloc: Global) -> Result<Made, AllocError> {
+fn mutual(alloc: Global) -> Result<Large, AllocError> {
     let mut made = bare(alloc, 20_000, false)?;
     for x in 0..9_999 {
         add(
@@ -156,7 +157,7 @@ fn mutual(alloc: Global) -> Result<Made, AllocError> {
 }
 
 /// Each name is the sum of the conversions of all names but itself, each on a clock of its own.
-fn conversions(rt: &impl Abort, alloc: Global) -> Result<Made, AllocError> {
+fn conversions(rt: &impl Abort, alloc: Global) -> Result<Large, AllocError> {
     let mut made = bare(alloc, 917, true)?;
     for x in 0..917u32 {
         let period = make(u64::from(x) * 1_000_003 + 549_755_813_881, GRID);
@@ -178,7 +179,7 @@ fn conversions(rt: &impl Abort, alloc: Global) -> Result<Made, AllocError> {
     Ok(made)
 }
 
-fn made(rt: &impl Abort, alloc: Global, case: Option<u8>) -> Result<Made, AllocError> {
+fn large_of(rt: &impl Abort, alloc: Global, case: Option<u8>) -> Result<Large, AllocError> {
     match case {
         Some(b'c') => chain(alloc),
         Some(b'w') => wide(alloc),
@@ -189,7 +190,7 @@ fn made(rt: &impl Abort, alloc: Global, case: Option<u8>) -> Result<Made, AllocE
 
 /// Makes a model, and orders it. The status is 0 for an order, 1 where there is none, and 2 where it was not asked for.
 fn status(rt: &impl Abort, alloc: Global, word: &[u8]) -> Result<u8, AllocError> {
-    let made = made(rt, alloc, word.first().copied())?;
+    let made = large_of(rt, alloc, word.first().copied())?;
     if word.len() < 2 {
         return Ok(2);
     }
