@@ -194,46 +194,33 @@ fn undo<V: Lookup>(expr: &Expr, name: u32, target: Value, values: &V) -> Result<
     requires interval { IsMeasurable (V.elapsed values.now) }
     ensures { Undoes (answers_by name expr.now (V.views values.now)) target result }
 {
-    let mut at = expr;
-    let mut total = target;
-    loop {
-        match at {
-            Expr::Read(_) => return Ok(total),
-            Expr::Neg(part) => match before_neg(total) {
-                Ok(before) => {
-                    at = part.get();
-                    total = before;
-                }
-                Err(kind) => return Err(kind),
-            },
-            Expr::Not(part) => match before_not(total) {
-                Ok(before) => {
-                    at = part.get();
-                    total = before;
-                }
-                Err(kind) => return Err(kind),
-            },
-            Expr::Chain(parts, ops) => {
-                let (front, part, back) = around(parts.as_slice(), name);
-                match before_chain(front, ops.as_slice(), back, total, values) {
-                    Ok(before) => {
-                        at = part;
-                        total = before;
-                    }
-                    Err(kind) => return Err(kind),
-                }
+    match expr {
+        Expr::Read(_) => Ok(target),
+        Expr::Neg(part) => match before_neg(target) {
+            Ok(before) => undo(part.get(), name, before, values),
+            Err(kind) => Err(kind),
+        },
+        Expr::Not(part) => match before_not(target) {
+            Ok(before) => undo(part.get(), name, before, values),
+            Err(kind) => Err(kind),
+        },
+        Expr::Chain(parts, ops) => {
+            let (front, part, back) = around(parts.as_slice(), name);
+            match before_chain(front, ops.as_slice(), back, target, values) {
+                Ok(before) => undo(part, name, before, values),
+                Err(kind) => Err(kind),
             }
-            Expr::Const(_) => unreachable!(),
-            Expr::Relation(_, _, _) => unreachable!(),
-            Expr::If(_, _, _) => unreachable!(),
-            Expr::Apply(_, _) => unreachable!(),
-            Expr::Previous(_) => unreachable!(),
-            Expr::FirstTick(_) => unreachable!(),
-            Expr::IntervalTimes(_, _) => unreachable!(),
-            Expr::Hold(_) => unreachable!(),
-            Expr::Convert(_, _) => unreachable!(),
-            Expr::Sample(_, _) => unreachable!(),
         }
+        Expr::Const(_) => unreachable!(),
+        Expr::Relation(_, _, _) => unreachable!(),
+        Expr::If(_, _, _) => unreachable!(),
+        Expr::Apply(_, _) => unreachable!(),
+        Expr::Previous(_) => unreachable!(),
+        Expr::FirstTick(_) => unreachable!(),
+        Expr::IntervalTimes(_, _) => unreachable!(),
+        Expr::Hold(_) => unreachable!(),
+        Expr::Convert(_, _) => unreachable!(),
+        Expr::Sample(_, _) => unreachable!(),
     }
 }
 

@@ -1,1 +1,5 @@
+pub mod Levels
+pub mod Ordering
+pub mod Rests
 pub mod Same
+pub mod Staged

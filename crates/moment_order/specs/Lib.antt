@@ -1,1 +1,3 @@
 pub mod Laws
+pub mod Stages
+pub mod private
