@@ -10,7 +10,13 @@ use std::process::Abort;
 use sync_values::{List, Text, Value};
 
 /// A name that starts at 0 or false.
-fn name(rt: &impl Abort, alloc: Global, text: &[u8], boolean: bool, input: bool) -> FlatName
+pub(crate) fn name(
+    rt: &impl Abort,
+    alloc: Global,
+    text: &[u8],
+    boolean: bool,
+    input: bool,
+) -> FlatName
     requires { length text.now ≤ 100 }
     ensures name { IsName result }
     ensures text { result.text ≡ text.now }
@@ -34,7 +40,7 @@ fn name(rt: &impl Abort, alloc: Global, text: &[u8], boolean: bool, input: bool)
 }
 
 /// The model of two names, without equations.
-fn model(rt: &impl Abort, alloc: Global, first: FlatName, second: FlatName) -> FlatModel
+pub(crate) fn model(rt: &impl Abort, alloc: Global, first: FlatName, second: FlatName) -> FlatModel
     requires first { IsName first }
     requires second { IsName second }
     requires apart { first.text ≢ second.text }
@@ -51,7 +57,7 @@ fn model(rt: &impl Abort, alloc: Global, first: FlatName, second: FlatName) -> F
 }
 
 /// An input `u` and a variable `y`, both Integer.
-fn one_input(rt: &impl Abort, alloc: Global) -> FlatModel
+pub(crate) fn one_input(rt: &impl Abort, alloc: Global) -> FlatModel
     ensures { IsModel result }
 {
     let input = name(rt, alloc, b"u", false, true);
@@ -126,7 +132,7 @@ fn told(rt: &impl Abort, alloc: Global, answer: Result<Table, TableEnd>) -> Vec<
 }
 
 /// The answer to the bytes of a file, as numbers.
-fn read(rt: &impl Abort, alloc: Global, flat: &FlatModel, bytes: &[u8]) -> Vec<i64>
+pub(crate) fn read(rt: &impl Abort, alloc: Global, flat: &FlatModel, bytes: &[u8]) -> Vec<i64>
     requires { IsModel flat.now }
 {
     assert!(rt; bytes.len() <= 16_777_216, "a table file is short");
