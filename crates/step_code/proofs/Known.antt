@@ -1,8 +1,8 @@
 -- A typed expression whose reads have cells is known.
-use Rattle.std.proofs.Common.{◌≡◌, refl, ap, sym, subst, ◌∙◌, ℕ, suc, ◌+◌, ◌==◌, ◌&&◌, ◌⊎◌, inl, inr, Bool, true, false, if◌then◌else◌, List, [], ◌∷◌, map, length, Option, Some, None, arith}
+use Rattle.std.proofs.Common.{◌≡◌, refl, ap, sym, subst, ◌∙◌, ℕ, suc, ◌+◌, ◌==◌, ◌&&◌, Bool, true, false, if◌then◌else◌, List, [], ◌∷◌, map, length, Option, Some, None, arith}
 use Rattle.std.specs.List.{list_all}
 use Rattle.std.specs.Option.{is_some}
-use Rattle.std.proofs.lemmas.Bool.{false≢true}
+use Rattle.std.proofs.lemmas.Bool.{false≢true, eq-eqb}
 use Rattle.std.proofs.lemmas.Option.{same_Some, none-some}
 use Rattle.sync_values.specs.declared.value.Value.{Value}
 use Rattle.sync_values.specs.declared.value.Value.TheVariants as value
@@ -17,7 +17,7 @@ use Rattle.flat_model.specs.declared.clock.ClockExpr.{ClockExpr}
 use Rattle.flat_model.specs.declared.clock.ClockExpr.TheOpen.{Expr-F}
 use Rattle.flat_model.specs.declared.clock.ClockExpr.TheViews.{roll-Expr}
 use Rattle.flat_model.specs.declared.clock.ClockExpr.TheFolds.{ind-Expr, fold-roll-Expr, map-Expr}
-use Rattle.flat_model.specs.Typing.{Types, valued_type, type_of_value, is_value, is_type, typed_if, goes_with, type_of_operator, type_if_all, chain_type, relation_type, if_type, arity, call_type, type_of_level, type_of}
+use Rattle.flat_model.specs.Typing.{Types, valued_type, type_of_value, is_value, is_type, goes_with, type_of_operator, type_if_all, chain_type, relation_type, if_type, arity, call_type, type_of_level, type_of}
 use Rattle.flat_model.proofs.Typed.{both, if_some, typed_some, is_type_some, same_number}
 use Rattle.step_code.specs.Code.{Cells, cells_before, Piece, Shape, shape_of, shape_of_level, pieces_at, piece_of, guarded, cell_piece, made, value_truth, all_known, all_truths, is_lazy, is_strict, is_chain, is_call, is_if, chain_code, chain_truth, if_code, call_code}
 use Rattle.step_code.specs.Known.{Covering, all_covered, covered_level, covering_of, has_cells, AreMarked}
@@ -78,7 +78,11 @@ strict_all o (q ∷ ops) a b =
     let two = both (goes_with o q) _ b in
     and_both (is_strict q) (list_all is_strict ops) (strict_one o q a two.0) (strict_all o ops a two.1)
 
-chain_shape : (o : ChainOp) (ops : List ChainOp) (p q : Piece) (ps : List Piece) (t : NameKind) → type_of_operator o ≡ Some t → list_all (goes_with o) ops ≡ true → (t ≡ kind.Boolean → all_truths (p ∷ q ∷ ps) ≡ true) → is_chain (o ∷ ops) (p ∷ q ∷ ps) ≡ true
+-- the tests of a chain but that of its length
+abbrev chain_ops : ChainOp → List ChainOp → Piece → Piece → List Piece → Bool
+chain_ops o ops p q ps = if is_lazy o then list_all is_lazy ops && (p.truth && (q.truth && all_truths ps)) else list_all is_strict ops
+
+chain_shape : (o : ChainOp) (ops : List ChainOp) (p q : Piece) (ps : List Piece) (t : NameKind) → type_of_operator o ≡ Some t → list_all (goes_with o) ops ≡ true → (t ≡ kind.Boolean → all_truths (p ∷ q ∷ ps) ≡ true) → chain_ops o ops p q ps ≡ true
 chain_shape Plus ops p q ps t is goes truths = strict_all Plus ops refl goes
 chain_shape Minus ops p q ps t is goes truths = strict_all Minus ops refl goes
 chain_shape Times ops p q ps t is goes truths = strict_all Times ops refl goes
@@ -192,11 +196,19 @@ module _ (types : Types) where
         let c = both (has_cells at (g z)) _ cells in
         and_both (piece_of at (g z)).truth _ ((all z at marks type (is_type_some type _ t.0) c.0).truth boolean) (parts_truths at marks type boolean zs t.1 c.1)
 
+    same_length : (at : Cells) (zs : List B) → length (pieces at zs) ≡ length (kinds zs)
+    same_length at [] = refl
+    same_length at (z ∷ zs) = ap suc (same_length at zs)
+
     chain_long : (at : Cells) → AreMarked types at → (type : NameKind) (zs : List B) (o : ChainOp) (ops : List ChainOp) → IsTyped (kinds zs) o ops type → covered at zs ≡ true → is_chain (o ∷ ops) (pieces at zs) ≡ true
     chain_long at marks type [] o ops is cells = absurd (let long = is.long in omega (arith, long))
     chain_long at marks type (y ∷ []) o ops is cells = absurd (let long = is.long in omega (arith, long))
     chain_long at marks type (y ∷ z ∷ zs) o ops is cells =
-        chain_shape o ops (piece_of at (g y)) (piece_of at (g z)) (pieces at zs) type is.operator is.goes (λ boolean. parts_truths at marks type boolean (y ∷ z ∷ zs) is.each cells)
+        let long = is.long in
+        let size = same_length at zs in
+        let same : length ops ≡ length (pieces at zs) = omega (arith, long, size) in
+        and_both (length ops == length (pieces at zs)) _ (eq-eqb _ _ same)
+        (chain_shape o ops (piece_of at (g y)) (piece_of at (g z)) (pieces at zs) type is.operator is.goes (λ boolean. parts_truths at marks type boolean (y ∷ z ∷ zs) is.each cells))
 
     chain_known : (at : Cells) → AreMarked types at → (type : NameKind) (zs : List B) (ops : List ChainOp) → chain_type (kinds zs) ops ≡ Some type → covered at zs ≡ true
         → KnownAs type (made (chain_code ops (pieces at zs)) (is_chain ops (pieces at zs) && all_known (pieces at zs)) (chain_truth ops))

@@ -1,5 +1,5 @@
 -- The code of an expression gives its value.
-use Rattle.std.proofs.Common.{◌≡◌, refl, ap, ◌∙◌, sym, subst, ℕ, suc, ◌+◌, ◌<◌, ℤ, pos, Bool, true, false, ◌&&◌, if◌then◌else◌, List, [], ◌∷◌, ◌++◌, length, length-append, append_assoc, Option, Some, None, Result, Ok, arith}
+use Rattle.std.proofs.Common.{◌≡◌, refl, ap, ◌∙◌, sym, subst, ℕ, suc, ◌+◌, ◌==◌, ◌<◌, ℤ, pos, Bool, true, false, ◌&&◌, if◌then◌else◌, List, [], ◌∷◌, ◌++◌, length, length-append, append_assoc, Option, Some, None, Result, Ok, arith}
 use Rattle.std.specs.List.{list_all}
 use Rattle.sync_values.specs.Relation.{rank}
 use Rattle.sync_values.specs.declared.value.Value.{Value}
@@ -436,9 +436,10 @@ module _ (at : Cells) (views : Views) where
   chain_gives (o ∷ ops) (p ∷ q ∷ ps) [] known right = absurd right
   chain_gives (o ∷ ops) (p ∷ q ∷ ps) (a ∷ []) known right = absurd right.1
   chain_gives (o ∷ ops) (p ∷ q ∷ ps) (a ∷ b ∷ rs) known right = λ cells d t below s within.
+      let shape = and_right (length ops == length ps) (is_chain_by (is_lazy o) o ops p q ps) known in
       let same = first_same (is_lazy o) o p q d t refl in
       subst (λ is. Gives (is ++ more_code ops ps d t) cells d t d (chained (joined o a b) ops rs)) (sym same)
-      (chain_by (is_lazy o) o ops p q ps a b rs refl known right.0 right.1.0 right.1.1 cells d t below s (subst (λ is. AreWithin (length cells) (is ++ more_code ops ps d t)) same within))
+      (chain_by (is_lazy o) o ops p q ps a b rs refl shape right.0 right.1.0 right.1.1 cells d t below s (subst (λ is. AreWithin (length cells) (is ++ more_code ops ps d t)) same within))
 
   pub chain_truths : (ops : List ChainOp) (ps : List Piece) (rs : List Answer) → is_chain ops ps ≡ true → AllRight ps rs → chain_truth ops ≡ true → (w : Value) → Operators.chain ops rs ≡ Is w → IsTruth w
   chain_truths [] ps rs known right short w eq = absurd (bad known) where
@@ -453,7 +454,7 @@ module _ (at : Cells) (views : Views) where
   chain_truths (o ∷ ops) (p ∷ q ∷ ps) [] known right short w eq = absurd right
   chain_truths (o ∷ ops) (p ∷ q ∷ ps) (a ∷ []) known right short w eq = absurd right.1
   chain_truths (o ∷ ops) (p ∷ q ∷ ps) (a ∷ b ∷ rs) known right short w eq =
-      let k : is_chain_by true o ops p q ps ≡ true = subst (λ z. is_chain_by z o ops p q ps ≡ true) short known in
+      let k : is_chain_by true o ops p q ps ≡ true = subst (λ z. is_chain_by z o ops p q ps ≡ true) short (and_right (length ops == length ps) (is_chain_by (is_lazy o) o ops p q ps) known) in
       let k1 = and_left (list_all is_lazy ops) (p.truth && (q.truth && all_truths ps)) k in
       let pt = and_left p.truth (q.truth && all_truths ps) (and_right (list_all is_lazy ops) (p.truth && (q.truth && all_truths ps)) k) in
       chained_truth ops rs (joined o a b) w k1 (λ v e. lazy_truth o a b v short e (right.0.truth pt)) eq

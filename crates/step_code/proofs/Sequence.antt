@@ -13,6 +13,7 @@ use Rattle.step_code.specs.Machine.{word_at, ran, AreWithin}
 use Rattle.step_code.specs.Code.{Cells, piece_of}
 use Rattle.step_code.specs.Correct.{IsTruth, IsHeld, Stands, AreTruths, IsKept, Gives}
 use Rattle.step_code.specs.Lines.{Line, lines_code, given, Ended, All, Failed, Missing, ended_by, lines_end, Holds, AreApart, IsNewTo, IsLine, AreLines, RunsAs}
+use Rattle.step_code.proofs.Runs.{stopped_within}
 use Rattle.step_code.proofs.Giving.{stands_kept, within_front, within_back, within_kept}
 use Rattle.step_code.proofs.Compiled.{code_right, code_gives}
 
@@ -139,7 +140,7 @@ module _ (at : Cells) (t : ℕ) (apart : AreApart at) where
 
   after_line : (code rest : List Instr) (cells after : List ℤ) (e : Ended) → ran (code ++ rest) 0 cells ≡ ran rest 0 after → length after ≡ length cells → RunsAs at t rest after e → RunsAs at t (code ++ rest) cells e
   after_line code rest cells after (All views) runs size r = (r.0, runs ∙ r.1, r.2 ∙ size, r.3)
-  after_line code rest cells after (Failed views kind behind) runs size r = (r.0, r.1, runs ∙ r.2, r.3, r.4 ∙ size, r.5)
+  after_line code rest cells after (Failed views kind line behind) runs size r = (r.0, r.1, runs ∙ r.2, r.3, r.4, r.5 ∙ size, r.6)
   after_line code rest cells after Missing runs size r = tt
 
   line_ends : (ls : List Line) (cells : List ℤ) (views : Views) (l : Line) (a : Answer) → AreTruths at views
@@ -155,8 +156,9 @@ module _ (at : Cells) (t : ℕ) (apart : AreApart at) where
       (next g.after (given l.name v views) (truths_given views l.name v (λ truth. (code_right at views truths l.side lines.0.known).truth (lines.0.truth truth) v is) truths) (lines_given views l.name v ls lines.3 lines.4)
       (holds_given g.after views l v lines.0 g.word kept) (within_kept l.cell t cells g.after rest g.kept (within_back (length cells) code rest within)))
   line_ends ls cells views l (Fails kind) truths next is lines holds within g =
+      let code = (piece_of at l.side).code l.cell t in
       let rest = lines_code at t ls in
-      (g.after, g.left + length rest, g.stops rest, omega arith, g.kept.size, holds_kept cells g.after views l lines.0 lines.1 lines.2 g.kept holds)
+      (g.after, g.left + length rest, g.stops rest, omega arith, stopped_within (code ++ rest) 0 cells g.after kind (g.left + length rest) (g.stops rest), g.kept.size, holds_kept cells g.after views l lines.0 lines.1 lines.2 g.kept holds)
   line_ends ls cells views l Absent truths next is lines holds within g = tt
 
   pub lines_run : (ls : List Line) (cells : List ℤ) (views : Views) → AreTruths at views → AreLines at t views ls → Holds at cells t views → AreWithin (length cells) (lines_code at t ls) → RunsAs at t (lines_code at t ls) cells (lines_end ls views)

@@ -1,5 +1,6 @@
 pub mod Code
 pub mod Correct
+pub mod Emits
 pub mod Known
 pub mod Laws
 pub mod Lines

@@ -1,6 +1,8 @@
-ghost use Rattle.std.specs.Prelude.{◌≡◌, ◌+◌, ◌++◌, ◌∷◌, [], length, map, slice_get, MatchOption, OnOk, Some, None, IfOk};
+ghost use Rattle.std.specs.Prelude.{◌≡◌, ℕ, Bool, ◌+◌, ◌++◌, ◌∷◌, [], length, map, slice_get, MatchOption, OnOk, IfErr, Some, None, true, ◌&&◌};
 ghost use Rattle.sync_values.specs.Relation.{rank};
-ghost use Rattle.step_code.specs.Code.{instr, piece_of, places_of, const_in, interval_in, unfit_in, cells_before, chain_code, turn_code, if_code, call_code, joined_code, first_code, held_code, held_place, binary_code, unary_code, lazy_code, op_of_chain, op_of_rel, op_of_fun, is_lazy};
+ghost use Rattle.step_code.specs.declared.compile.NoCode.TheVariants.{Memory};
+ghost use Rattle.step_code.specs.Emits.{Emits, IsCounted};
+ghost use Rattle.step_code.specs.Code.{instr, cell_piece, is_chain, is_if, is_call, all_known, piece_of, places_of, const_in, interval_in, unfit_in, cells_before, chain_code, turn_code, if_code, call_code, joined_code, first_code, held_code, held_place, binary_code, unary_code, lazy_code, op_of_chain, op_of_rel, op_of_fun, is_lazy};
 
 use crate::backward::Backward;
 use crate::machine::{Instr, Op};
@@ -194,7 +196,8 @@ fn op_of_call(function: Fun) -> Op
 
 /// One more instruction before the others.
 fn put(out: &mut Backward, op: Op, to: u32, left: u32, right: u32) -> Result<(), NoCode>
-    ensures { OnOk result (out.new ≡ instr op to left right ∷ out.old) }
+    ensures made { OnOk result (out.new ≡ instr op to left right ∷ out.old) }
+    ensures refused { IfErr result (λ kind. kind ≡ Memory) }
 {
     let instr = Instr {
         op,
@@ -210,9 +213,16 @@ fn put(out: &mut Backward, op: Op, to: u32, left: u32, right: u32) -> Result<(),
 
 /// The cell after this one.
 fn next(t: u32) -> Result<u32, NoCode>
-    ensures { IfOk result (λ n. n ≡ t + 1) }
+    ensures { IsCounted (t + 1) result }
 {
     t.checked_add(1).ok_or(NoCode::Large)
+}
+
+/// A number of instructions, as a jump counts them.
+fn counted(length: usize) -> Result<u32, NoCode>
+    ensures { IsCounted length result }
+{
+    u32::try_from(length).map_err(|_| NoCode::Large)
 }
 
 /// The code of an operand, which is none where it is a cell already.
@@ -224,7 +234,7 @@ fn emit_held(
     to: u32,
     free: u32,
 ) -> Result<(), NoCode>
-    ensures { OnOk result (out.new ≡ held_code (piece_of (places_of places.now) expr.now) to free ++ out.old) }
+    ensures { Emits (held_code (piece_of (places_of places.now) expr.now) to free) (piece_of (places_of places.now) expr.now).known free out.old out.new result }
 {
     match leaf(places, expr) {
         Some(_) => Ok(()),
@@ -242,7 +252,7 @@ fn emit_unary(
     to: u32,
     free: u32,
 ) -> Result<(), NoCode>
-    ensures { OnOk result (out.new ≡ unary_code op (piece_of (places_of places.now) part.now) to free ++ out.old) }
+    ensures { Emits (unary_code op (piece_of (places_of places.now) part.now) to free) (piece_of (places_of places.now) part.now).known free out.old out.new result }
 {
     let place = leaf(places, part).unwrap_or(to);
     put(out, op, to, place, place)?;
@@ -260,7 +270,7 @@ fn emit_binary(
     to: u32,
     free: u32,
 ) -> Result<(), NoCode>
-    ensures { OnOk result (out.new ≡ binary_code op (piece_of (places_of places.now) left.now) (piece_of (places_of places.now) right.now) to free ++ out.old) }
+    ensures { Emits (binary_code op (piece_of (places_of places.now) left.now) (piece_of (places_of places.now) right.now) to free) ((piece_of (places_of places.now) left.now).known && (piece_of (places_of places.now) right.now).known) free out.old out.new result }
 {
     let left_place = leaf(places, left).unwrap_or(to);
     let right_place = leaf(places, right).unwrap_or(free);
@@ -279,11 +289,11 @@ fn emit_lazy(
     to: u32,
     free: u32,
 ) -> Result<(), NoCode>
-    ensures { OnOk result (out.new ≡ lazy_code op (piece_of (places_of places.now) part.now) to free ++ out.old) }
+    ensures { Emits (lazy_code op (piece_of (places_of places.now) part.now) to free) (piece_of (places_of places.now) part.now).known free out.old out.new result }
 {
     let before = out.len();
     emit(out, places, part, to, free)?;
-    let length = u32::try_from(out.len() - before).map_err(|_| NoCode::Large)?;
+    let length = counted(out.len() - before)?;
     put(out, op, length, to, to)
 }
 
@@ -297,7 +307,7 @@ fn emit_joined(
     to: u32,
     free: u32,
 ) -> Result<(), NoCode>
-    ensures { OnOk result (out.new ≡ joined_code op (piece_of (places_of places.now) part.now) to free ++ out.old) }
+    ensures { Emits (joined_code op (piece_of (places_of places.now) part.now) to free) (piece_of (places_of places.now) part.now).known free out.old out.new result }
 {
     if is_short(op) {
         return emit_lazy(out, places, op_of(op), part, to, free);
@@ -318,7 +328,7 @@ fn emit_first(
     to: u32,
     free: u32,
 ) -> Result<(), NoCode>
-    ensures { OnOk result (out.new ≡ first_code op (piece_of (places_of places.now) left.now) (piece_of (places_of places.now) right.now) to free ++ out.old) }
+    ensures { Emits (first_code op (piece_of (places_of places.now) left.now) (piece_of (places_of places.now) right.now) to free) ((piece_of (places_of places.now) left.now).known && (piece_of (places_of places.now) right.now).known) free out.old out.new result }
 {
     if is_short(op) {
         emit_lazy(out, places, op_of(op), right, to, free)?;
@@ -337,7 +347,7 @@ fn emit_chain(
     to: u32,
     free: u32,
 ) -> Result<(), NoCode>
-    ensures { OnOk result (out.new ≡ chain_code ops.now (map (piece_of (places_of places.now)) parts.now) to free ++ out.old) }
+    ensures { Emits (chain_code ops.now (map (piece_of (places_of places.now)) parts.now) to free) (is_chain ops.now (map (piece_of (places_of places.now)) parts.now) && all_known (map (piece_of (places_of places.now)) parts.now)) free out.old out.new result }
 {
     let Some((first, rest)) = parts.split_first() else {
         return Err(NoCode::Unknown);
@@ -370,12 +380,12 @@ fn emit_turn(
     to: u32,
     free: u32,
 ) -> Result<(), NoCode>
-    ensures { OnOk result (out.new ≡ turn_code (piece_of (places_of places.now) condition.now) (piece_of (places_of places.now) branch.now) after to free ++ out.old) }
+    ensures { Emits (turn_code (piece_of (places_of places.now) condition.now) (piece_of (places_of places.now) branch.now) after to free) ((piece_of (places_of places.now) condition.now).known && (piece_of (places_of places.now) branch.now).known) free out.old out.new result }
 {
     put(out, Op::Skip, after, to, to)?;
     let before = out.len();
     emit(out, places, branch, to, free)?;
-    let length = u32::try_from(out.len() - before).map_err(|_| NoCode::Large)?;
+    let length = counted(out.len() - before)?;
     let place = leaf(places, condition).unwrap_or(to);
     put(out, Op::SkipIfFalse, next(length)?, place, place)?;
     emit_held(out, places, condition, to, free)
@@ -392,7 +402,7 @@ fn emit_choice(
     to: u32,
     free: u32,
 ) -> Result<(), NoCode>
-    ensures { OnOk result (out.new ≡ if_code (map (piece_of (places_of places.now)) conditions.now) (map (piece_of (places_of places.now)) branches.now) (piece_of (places_of places.now) other.now) to free ++ out.old) }
+    ensures { Emits (if_code (map (piece_of (places_of places.now)) conditions.now) (map (piece_of (places_of places.now)) branches.now) (piece_of (places_of places.now) other.now) to free) (is_if (map (piece_of (places_of places.now)) conditions.now) (map (piece_of (places_of places.now)) branches.now) && (all_known (map (piece_of (places_of places.now)) conditions.now) && (all_known (map (piece_of (places_of places.now)) branches.now) && (piece_of (places_of places.now) other.now).known))) free out.old out.new result }
 {
     if conditions.len() != branches.len() {
         return Err(NoCode::Unknown);
@@ -402,7 +412,7 @@ fn emit_choice(
     let mut i = conditions.len();
     while 0 < i {
         i -= 1;
-        let after = u32::try_from(out.len() - before).map_err(|_| NoCode::Large)?;
+        let after = counted(out.len() - before)?;
         emit_turn(out, places, &conditions[i], &branches[i], after, to, free)?;
     }
     Ok(())
@@ -418,7 +428,7 @@ fn emit_call(
     to: u32,
     free: u32,
 ) -> Result<(), NoCode>
-    ensures { OnOk result (out.new ≡ call_code function (map (piece_of (places_of places.now)) parts.now) to free ++ out.old) }
+    ensures { Emits (call_code function (map (piece_of (places_of places.now)) parts.now) to free) (is_call (map (piece_of (places_of places.now)) parts.now) && all_known (map (piece_of (places_of places.now)) parts.now)) free out.old out.new result }
 {
     let Some((first, rest)) = parts.split_first() else {
         return Err(NoCode::Unknown);
@@ -432,8 +442,20 @@ fn emit_call(
     emit_binary(out, places, op_of_call(function), first, second, to, free)
 }
 
+/// The code that moves the word of a cell, if there is such a cell.
+fn emit_cell(out: &mut Backward, cell: Option<u32>, to: u32) -> Result<(), NoCode>
+    ensures { (free : ℕ) (truth : Bool) → Emits ((cell_piece cell truth).code to free) (cell_piece cell truth).known free out.old out.new result }
+{
+    match cell {
+        Some(place) => put(out, Op::Move, to, place, place),
+        None => Err(NoCode::Unknown),
+    }
+}
+
 /// Puts the code of an expression before the others: its value goes into the cell `to`, and the cells from `free` on are
-/// its own. Where it answers an error, what stands before the others is left open.
+/// its own. `Unknown` comes only where the expression is not known, and `Large` only where the first free cell and the
+/// number of the expression's instructions have together no number of 32 bits. Where it answers an error, what stands
+/// before the others is left open.
 #[cycle(emit)]
 #[tactic(auto, using(crate::proofs::Pieces::pieces))]
 pub fn emit(
@@ -443,7 +465,7 @@ pub fn emit(
     to: u32,
     free: u32,
 ) -> Result<(), NoCode>
-    ensures { OnOk result (out.new ≡ (piece_of (places_of places.now) expr.now).code to free ++ out.old) }
+    ensures { Emits ((piece_of (places_of places.now) expr.now).code to free) (piece_of (places_of places.now) expr.now).known free out.old out.new result }
 {
     match expr {
         Expr::Chain(parts, ops) => emit_chain(
@@ -482,14 +504,16 @@ pub fn emit(
             to,
             free,
         ),
+        Expr::Const(_) => emit_cell(out, leaf(places, expr), to),
+        Expr::Read(_) => emit_cell(out, leaf(places, expr), to),
+        Expr::Previous(_) => emit_cell(out, leaf(places, expr), to),
+        Expr::FirstTick(_) => emit_cell(out, leaf(places, expr), to),
+        Expr::Hold(_) => emit_cell(out, leaf(places, expr), to),
+        Expr::Convert(_, _) => emit_cell(out, leaf(places, expr), to),
         Expr::IntervalTimes(_, times) => match measured(places.here.measures, *times) {
             Some(found) => put(out, Op::Guard, to, found.unfit, found.cell),
             None => Err(NoCode::Unknown),
         },
         Expr::Sample(part, _) => emit(out, &from_left(places), part.get(), to, free),
-        _ => match leaf(places, expr) {
-            Some(cell) => put(out, Op::Move, to, cell, cell),
-            None => Err(NoCode::Unknown),
-        },
     }
 }

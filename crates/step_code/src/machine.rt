@@ -1,4 +1,4 @@
-ghost use Rattle.std.specs.Prelude.{◌≡◌, ℤ, length, true, pos, zero, is_ok};
+ghost use Rattle.std.specs.Prelude.{◌≡◌, ◌↔◌, ℤ, length, true, pos, zero, is_ok};
 ghost use Rattle.step_code.specs.Machine.{result_of, is_value, IsWithin, AreWithin, ran, ended};
 
 use sync_values::{Fail, abs, add, div, greatest, least, modulo, mul, neg, rem, sub};
@@ -136,7 +136,7 @@ pub fn run(code: &[Instr], cells: &mut [i64]) -> Option<Stop>
 
 /// Whether an instruction names cells that are there.
 fn is_within(instr: Instr, cells: usize) -> bool
-    ensures { result ≡ true → IsWithin cells instr }
+    ensures { (result ≡ true) ↔ IsWithin cells instr }
 {
     let jumps = matches!(instr.op, Op::Skip | Op::SkipIfFalse | Op::SkipIfTrue);
     (instr.left as usize) < cells
@@ -146,7 +146,7 @@ fn is_within(instr: Instr, cells: usize) -> bool
 
 /// Whether all instructions name cells that are there.
 pub fn fits(code: &[Instr], cells: usize) -> bool
-    ensures { result ≡ true → AreWithin cells code.now }
+    ensures { (result ≡ true) ↔ AreWithin cells code.now }
 {
     let mut i = code.len();
     while 0 < i {

@@ -1,0 +1,5 @@
+//! Tests of prepared code.
+#![tactic(auto)]
+
+#[cfg(test)]
+mod code;
