@@ -67,30 +67,16 @@ boolean_is (Some kind.Integer) e = absurd cc
 boolean_is (Some kind.Clock) e = absurd cc
 boolean_is None e = absurd cc
 
-module _ (model : FlatModel) (terms : Terms) (classes : Classes) (clocking : Clocking) (table : Table) (instants : List Ratio) (is_model : IsModel model) (t : AreTermsOf model terms)
-    (k : AreClassesOf model classes) (apart : NoneMixed model classes) (is : IsClockingOf model terms classes clocking) (free : IsNowhere (HoldsInCondition model classes)) where
-  abbrev s : Setting
-  s = record { model = model; clocking = clocking; table = table; instants = instants }
+-- the condition of a site is a part that is cut from an equation, and a Boolean
+pub record IsSite (model : FlatModel) (condition : Expr) : Type 0 where
+  pub equation : ℕ
+  pub node : ℕ
+  pub is_node : IsNode model node (cut_node equation (record { cause = Condition; mentions = (seen condition).mentions }))
+  pub type : whole_type_of (types_in model.names) condition ≡ Some kind.Boolean
 
-  -- the condition of a part that is cut is made of names, and they are unclocked
-  condition_is : (condition : Expr) (i l : ℕ) → IsNode model l (cut_node i (record { cause = Condition; mentions = (seen condition).mentions }))
-      → whole_type_of (types_in model.names) condition ≡ Some kind.Boolean → IsCondition s condition
-  condition_is condition i l at type =
-      let node = cut_node i (record { cause = Condition; mentions = (seen condition).mentions }) in
-      let cause : node.cause ≢ None = λ e. none-some Condition (sym e) in
-      let quiet = still_node model classes is_model k l node at (cut_unclocked model classes is_model k apart l node at cause) in
-      let no_hold : (m : Mention) → Contains node.mentions m → IsHold m → ⊥ = λ m c hold.
-      free i (l, node, at, refl, refl, (numbered model l, (l, refl, (node, at, (m, c, hold))), refl)) in
-      record {
-        typed = whole_typed (types_in model.names) condition kind.Boolean type;
-        direct = direct condition (each_from IsDirect node.mentions (λ m c. plain_mention m (each_contained IsStill node.mentions m quiet c) (no_hold m c)));
-        unclocked = λ y some.
-            let (m, c, stands) = bare_shown y condition some in
-            cut_name_unclocked model terms classes clocking table instants is_model k apart is l node y at cause (subst (λ m. Contains node.mentions m) (standing_is y m stands) c);
-      }
-
+module _ (model : FlatModel) (terms : Terms) (is_model : IsModel model) (t : AreTermsOf model terms) where
   -- the condition of a constructor that is mentioned in a node
-  given_is : (j : ℕ) (node : Node) (given : ClockExpr) (condition : Expr) → IsNode model j node → Contains node.mentions (Gives given) → given ≡ clock.Event condition → IsCondition s condition
+  given_is : (j : ℕ) (node : Node) (given : ClockExpr) (condition : Expr) → IsNode model j node → Contains node.mentions (Gives given) → given ≡ clock.Event condition → IsSite model condition
   given_is j node given condition at c e =
       let types = types_in model.names in
       let placed = IsPlaced (nodes_of model) in
@@ -101,27 +87,54 @@ module _ (model : FlatModel) (terms : Terms) (classes : Classes) (clocking : Clo
       let (l, is_cut) = at_of (nodes_of model) (cut_node first.0 (record { cause = Condition; mentions = (seen condition).mentions })) first.1 in
       let typed : is_type kind.Boolean (whole_type_of types condition) ≡ true
       = sym (clock_typed_roll types (ClockExpr-F.Event condition)) ∙ ap (λ g. is_typed_clock types g) (clock.rolls-Event condition ∙ sym e) ∙ good.1 in
-      condition_is condition first.0 l is_cut (boolean_is (whole_type_of types condition) typed)
+      record { equation = first.0; node = l; is_node = is_cut; type = boolean_is (whole_type_of types condition) typed }
 
   abbrev IsFit : Constructor → Type 0
-  IsFit constructor = (condition : Expr) → constructor.clock ≡ clock.Event condition → IsCondition s condition
+  IsFit constructor = (condition : Expr) → constructor.clock ≡ clock.Event condition → IsSite model condition
 
   constructors_fit : Each IsFit terms.constructors
   constructors_fit = each_from IsFit terms.constructors (λ constructor c condition e.
       let (j, node, at, (m, within, gives)) = in_nodes constructors_by (length model.names) (nodes_of model) constructor (subst (λ l. Contains l constructor) t.constructors c) in
       given_is j node constructor.clock condition at (subst (λ m. Contains node.mentions m) (given_by (length model.names + j) node.equation m constructor gives) within) e)
 
-  before_fit : (kind : Kind) (constructor : Constructor) (Rest : List Expr → Type 0) (sites : List Expr) → IsFit constructor → ((rest : List Expr) → Rest rest → Each (IsCondition s) rest)
-      → sites_before kind constructor.clock Rest sites → Each (IsCondition s) sites
+  before_fit : (kind : Kind) (constructor : Constructor) (Rest : List Expr → Type 0) (sites : List Expr) → IsFit constructor → ((rest : List Expr) → Rest rest → Each (IsSite model) rest)
+      → sites_before kind constructor.clock Rest sites → Each (IsSite model) sites
   before_fit Inferred constructor Rest sites fit more h = more sites h
   before_fit Other constructor Rest sites fit more h = more sites h
   before_fit (Every n r) constructor Rest sites fit more h = more sites h
-  before_fit AtSite constructor Rest sites fit more (condition, rest, given, whole, h) = subst (λ l. Each (IsCondition s) l) (sym whole) (fit condition given, more rest h)
+  before_fit AtSite constructor Rest sites fit more (condition, rest, given, whole, h) = subst (λ l. Each (IsSite model) l) (sym whole) (fit condition given, more rest h)
 
-  sites_fit : (constructors : List Constructor) (sites : List Expr) → Each IsFit constructors → AreSites constructors sites → Each (IsCondition s) sites
-  sites_fit [] sites fit h = subst (λ l. Each (IsCondition s) l) (sym h) tt
+  sites_fit : (constructors : List Constructor) (sites : List Expr) → Each IsFit constructors → AreSites constructors sites → Each (IsSite model) sites
+  sites_fit [] sites fit h = subst (λ l. Each (IsSite model) l) (sym h) tt
   sites_fit (constructor ∷ constructors) sites fit h =
       before_fit (kind_of constructor.clock) constructor (AreSites constructors) sites fit.0 (λ rest more. sites_fit constructors rest fit.1 more) h
 
+  pub sites_are : (sites : List Expr) → AreSites terms.constructors sites → Each (IsSite model) sites
+  sites_are sites h = sites_fit terms.constructors sites constructors_fit h
+
+module _ (model : FlatModel) (terms : Terms) (classes : Classes) (clocking : Clocking) (table : Table) (instants : List Ratio) (is_model : IsModel model) (t : AreTermsOf model terms)
+    (k : AreClassesOf model classes) (apart : NoneMixed model classes) (is : IsClockingOf model terms classes clocking) (free : IsNowhere (HoldsInCondition model classes)) where
+  abbrev s : Setting
+  s = record { model = model; clocking = clocking; table = table; instants = instants }
+
+  -- the condition of a site is made of names, and they are unclocked
+  condition_is : (condition : Expr) → IsSite model condition → IsCondition s condition
+  condition_is condition site =
+      let node = cut_node site.equation (record { cause = Condition; mentions = (seen condition).mentions }) in
+      let l = site.node in
+      let at = site.is_node in
+      let cause : node.cause ≢ None = λ e. none-some Condition (sym e) in
+      let quiet = still_node model classes is_model k l node at (cut_unclocked model classes is_model k apart l node at cause) in
+      let no_hold : (m : Mention) → Contains node.mentions m → IsHold m → ⊥ = λ m c hold.
+      free site.equation (l, node, at, refl, refl, (numbered model l, (l, refl, (node, at, (m, c, hold))), refl)) in
+      record {
+        typed = whole_typed (types_in model.names) condition kind.Boolean site.type;
+        direct = direct condition (each_from IsDirect node.mentions (λ m c. plain_mention m (each_contained IsStill node.mentions m quiet c) (no_hold m c)));
+        unclocked = λ y some.
+            let (m, c, stands) = bare_shown y condition some in
+            cut_name_unclocked model terms classes clocking table instants is_model k apart is l node y at cause (subst (λ m. Contains node.mentions m) (standing_is y m stands) c);
+      }
+
   pub conditions : All (IsCondition s) clocking.sites
-  conditions = all_of_each (IsCondition s) clocking.sites (sites_fit terms.constructors clocking.sites constructors_fit is.sites)
+  conditions = all_of_each (IsCondition s) clocking.sites (each_from (IsCondition s) clocking.sites (λ condition c.
+      condition_is condition (each_contained (IsSite model) clocking.sites condition (sites_are model terms is_model t clocking.sites is.sites) c)))

@@ -42,7 +42,7 @@ standing_is y (Holds x) e = absurd e
 standing_is y (Converts by x) e = absurd e
 standing_is y (Gives clock) e = absurd e
 
-hold_is : (z : ℕ) (m : Mention) → IsHoldOf z m → IsHold m × TakesLast z m
+pub hold_is : (z : ℕ) (m : Mention) → IsHoldOf z m → IsHold m × TakesLast z m
 hold_is z (Stands x) e = absurd e
 hold_is z Ticks e = absurd e
 hold_is z Samples e = absurd e
