@@ -1,16 +1,14 @@
 -- The clocks that were solved have one answer.
-use Rattle.std.proofs.Common.{◌≡◌, ◌≢◌, ◌∙◌, refl, sym, ap, ap₂, subst, ℕ, zero, suc, ◌+◌, ◌*◌, ◌<◌, ◌≤◌, ◌⊎◌, inl, inr, Bool, true, false, if◌then◌else◌, List, [], ◌∷◌, Option, Some, None, option_map, Result, Ok, Err, length, take, get_or, slice_get, slice_index_or, arith}
-use Rattle.std.specs.List.{count_by}
+use Rattle.std.proofs.Common.{◌≡◌, ◌∙◌, refl, sym, ap, ap₂, subst, ℕ, suc, ◌<◌, true, false, if◌then◌else◌, List, [], ◌∷◌, Option, Some, None, option_map, Result, Ok, Err, length, get_or, slice_get, arith}
 use Rattle.std.proofs.lemmas.Option.{slice_get-get_or}
 use Rattle.sync_values.specs.declared.value.Value.TheVariants as value
-use Rattle.rational_time.specs.declared.ratio.Ratio.{Ratio}
 use Rattle.flat_model.specs.declared.clock.Clock.{Clock}
 use Rattle.flat_model.specs.declared.clock.Clock.TheVariants.{Periodic, Event}
 use Rattle.flat_model.specs.declared.clock.Clocking.{Clocking}
 use Rattle.flat_model.specs.declared.clock.ClockExpr.{ClockExpr}
 use Rattle.flat_model.specs.declared.clock.ClockExpr.TheVariants as clock
 use Rattle.flat_model.specs.declared.clock.ClockExpr.TheOpen.{ClockExpr-F}
-use Rattle.flat_model.specs.declared.clock.ClockExpr.TheViews.{roll-ClockExpr, out-ClockExpr, out-roll-ClockExpr}
+use Rattle.flat_model.specs.declared.clock.ClockExpr.TheViews.{out-ClockExpr, out-roll-ClockExpr}
 use Rattle.flat_model.specs.declared.expression.Expr.{Expr}
 use Rattle.flat_model.specs.declared.model.NameKind.TheVariants as kind
 use Rattle.flat_model.specs.declared.model.FlatModel.{FlatModel}
@@ -25,7 +23,6 @@ use Rattle.clock_terms.specs.Classing.{class_in, is_clocked, partition_in}
 use Rattle.clock_terms.specs.Said.{numbered}
 use Rattle.clock_terms.specs.Source.{Kind, Inferred, Every, AtSite, Other, kind_of}
 use Rattle.clock_terms.proofs.Progressions.{same_sym, same_trans}
-use Rattle.clock_spread.specs.Least.{IsLeast}
 use Rattle.clock_spread.proofs.Only.{clocking_gives}
 use Rattle.sub_clock_solve.specs.Solving.{said_of, place_of, IsSolution}
 use Rattle.sub_clock_solve.specs.Standing.{FitTogether}
@@ -34,7 +31,7 @@ use Rattle.sub_clock_solve.proofs.Once.{least_once, place_has, gotten_proper}
 use Rattle.clock_check.specs.declared.kinds.CheckEnd.{CheckEnd}
 use Rattle.clock_check.specs.declared.kinds.CheckEnd.TheVariants.{Factor, EarlyStart, NotOnEvent, EventFactor, HoldInCondition, NoMemory}
 use Rattle.clock_check.specs.Broken.{StartsEarly, HasNoWholeShift, HasNoWholeFactor}
-use Rattle.clock_check.specs.Checking.{HasNoFactor, IsGridWith, HoldsInCondition, IsNowhere, HaveFactors, StartInTime, AreShiftsWhole, AreFactorsWhole, MeetsAll, Checks}
+use Rattle.clock_check.specs.Checking.{HasNoFactor, IsGridWith, HoldsInCondition, Checks}
 use Rattle.clock_check.specs.ClockingOf.{number_in, class_of_name, held_in, sites_before, AreSites, IsClockingOf}
 use Rattle.clock_ready.specs.Laws.{IsNoMemory}
 use Rattle.clock_ready.proofs.Equations.{node_of_equation}

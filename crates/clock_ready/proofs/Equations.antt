@@ -6,7 +6,7 @@ use Rattle.flat_model.specs.declared.equation.Equation.{Equation}
 use Rattle.flat_model.specs.declared.model.FlatModel.{FlatModel}
 use Rattle.flat_model.specs.Models.{clause_of}
 use Rattle.clock_terms.specs.Mentions.{clock_cuts}
-use Rattle.clock_terms.specs.Nodes.{Node, cut_nodes, own_node, side_cuts, leading_clock, nodes_of_equation, nodes_from, nodes_of}
+use Rattle.clock_terms.specs.Nodes.{Node, cut_nodes, own_node, side_cuts, leading_clock, nodes_of_equation, nodes_from}
 use Rattle.clock_terms.specs.Said.{IsNode}
 
 pub own_at : {A : Type 0} (xs : List A) (a : A) (ys : List A) → slice_get (xs ++ a ∷ ys) (length xs) ≡ Some a

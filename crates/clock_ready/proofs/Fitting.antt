@@ -1,6 +1,6 @@
 -- The terms and the classes of a model fit together.
-use Rattle.std.proofs.Common.{◌≡◌, refl, ap, ◌∙◌, sym, subst, ℕ, zero, suc, ◌+◌, ◌-◌, ◌<◌, ◌≤◌, nat_le, nat_lt, ◌^◌, ◌&&◌, ◌⊎◌, inl, inr, ⊎_elim, Bool, true, false, List, [], ◌∷◌, ◌++◌, length, slice_get, slice_index_or, get_or, flat_map, Option, Some, None, option_map, All, arith}
-use Rattle.std.proofs.lemmas.Bool.{false≢true, and_parts, cases_Bool}
+use Rattle.std.proofs.Common.{◌≡◌, refl, ap, ◌∙◌, sym, subst, ℕ, zero, suc, ◌+◌, ◌-◌, ◌<◌, ◌≤◌, nat_le, nat_lt, ◌^◌, ◌⊎◌, inl, inr, ⊎_elim, Bool, true, false, List, [], ◌∷◌, length, slice_get, get_or, flat_map, Option, Some, None, option_map, All, arith}
+use Rattle.std.proofs.lemmas.Bool.{false≢true, and_parts}
 use Rattle.std.proofs.lemmas.Option.{none-some, slice_get-get_or}
 use Rattle.std.proofs.lemmas.Grind.{get_or_default_zero}
 use Rattle.sync_values.specs.declared.value.Value.TheVariants as value
@@ -19,7 +19,7 @@ use Rattle.clock_terms.specs.declared.data.Constructor.{Constructor}
 use Rattle.clock_terms.specs.declared.data.Relation.{Relation}
 use Rattle.clock_terms.specs.Asked.{IsGiven}
 use Rattle.clock_terms.specs.Classing.{IsMember, AreClassesOf, class_in}
-use Rattle.clock_terms.specs.Listed.{of_nodes, constructors_by, relation_by, relations_by, constructors_of, relations_of}
+use Rattle.clock_terms.specs.Listed.{of_nodes, constructors_by, relations_by, constructors_of, relations_of}
 use Rattle.clock_terms.specs.Mentions.{Mention, Stands, Ticks, Samples, Holds, Converts, Gives}
 use Rattle.clock_terms.specs.Nodes.{Node, nodes_of}
 use Rattle.clock_terms.specs.Said.{AreTermsOf, IsNamed, numbered}
@@ -27,7 +27,7 @@ use Rattle.clock_terms.proofs.Marking.{get_below}
 use Rattle.sub_clock_solve.specs.Standing.{IsGivenClock, HasClass, FitTogether}
 use Rattle.clock_check.specs.Inferring.{IsInferred}
 use Rattle.clock_ready.specs.Laws.{HaveKnownFactors}
-use Rattle.clock_ready.proofs.Good.{at_least, Each, each_append, all_of_each, IsBelow, IsGood, IsGoodNode, model_good}
+use Rattle.clock_ready.proofs.Good.{at_least, Each, each_append, all_of_each, IsBelow, IsGood, model_good}
 
 -- a conversion with counters in their range has a factor that is given or to be inferred
 known_factor : (by : Conversion) → has_counters by ≡ true → (by ≡ NoClock → ⊥) → IsGiven by ⊎ IsInferred by
@@ -118,7 +118,7 @@ module _ (model : FlatModel) (terms : Terms) (classes : Classes) (is : IsModel m
   constructor_fits j i Samples lt g = tt
   constructor_fits j i (Holds x) lt g = tt
   constructor_fits j i (Converts by x) lt g = tt
-  constructor_fits j i (Gives clock) lt g = ((node_class j lt, g), tt)
+  constructor_fits j i (Gives clock) lt g = ((node_class j lt, g.0), tt)
 
   relation_fits : (j i : ℕ) (m : Mention) → j < length (nodes_of model) → good m → Each IsFitRelation (relations_by (length model.names + j) i m)
   relation_fits j i (Stands x) lt g = tt

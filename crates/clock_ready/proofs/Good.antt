@@ -1,5 +1,5 @@
 -- What stands in the equations of a model: names of the model, and numbers within their limits.
-use Rattle.std.proofs.Common.{◌≡◌, refl, ap, ◌∙◌, sym, subst, ℕ, zero, suc, ◌+◌, ◌<◌, ◌≤◌, ◌⊎◌, ⊎_elim, ◌==◌, ◌&&◌, nat_le, nat_lt, ◌^◌, Bool, true, false, if◌then◌else◌, List, [], ◌∷◌, ◌++◌, map, flat_map, length, slice_get, get_or, Option, Some, None, is_some, All, Contains, arith}
+use Rattle.std.proofs.Common.{◌≡◌, refl, ◌∙◌, sym, subst, ℕ, zero, suc, ◌+◌, ◌≤◌, ⊎_elim, ◌==◌, ◌&&◌, nat_le, nat_lt, ◌^◌, Bool, true, false, if◌then◌else◌, List, [], ◌∷◌, ◌++◌, map, length, slice_get, Option, Some, None, is_some, All, arith}
 use Rattle.std.specs.List.{list_all, list_any}
 use Rattle.std.proofs.lemmas.Bool.{false≢true, and_parts, ltb-true}
 use Rattle.std.proofs.lemmas.Bool.Decides.{leb_tells}
@@ -19,14 +19,13 @@ use Rattle.flat_model.specs.declared.clock.ClockExpr.TheFolds.{fold-roll-Expr, f
 use Rattle.flat_model.specs.declared.equation.Equation.{Equation}
 use Rattle.flat_model.specs.declared.equation.Equation.TheVariants.{Valued, Clocks}
 use Rattle.flat_model.specs.Typing.{Types, types_in, valued_type, is_type, typed_if, goes_with, type_of_operator, type_if_all, chain_type, relation_type, if_type, arity, call_type}
-use Rattle.flat_model.specs.WholeTyping.{is_clock, is_variable_if, clock_level, sampled_type, whole_level, whole_type_of, is_typed_clock, IsTyped}
-use Rattle.flat_model.specs.Counters.{is_counter, has_counters, all_fit, fits_if, counters_in_clock_level, counters_in_level, counters_fit, clock_counters_fit, HasCounters}
+use Rattle.flat_model.specs.WholeTyping.{is_clock, clock_level, sampled_type, whole_level, whole_type_of, is_typed_clock, IsTyped}
+use Rattle.flat_model.specs.Counters.{is_counter, has_counters, all_fit, counters_in_clock_level, counters_in_level, counters_fit, clock_counters_fit, HasCounters}
 use Rattle.flat_model.specs.Models.{clause_of, IsModel}
-use Rattle.clock_terms.specs.declared.data.Cause.{Cause}
-use Rattle.clock_terms.specs.declared.data.Cause.TheVariants.{Sampled, Condition}
-use Rattle.clock_terms.specs.Mentions.{Mention, Stands, Ticks, Samples, Holds, Converts, Gives, Cut, Seen, SeenExpr, SeenClock, mentions_of, cuts_of, mentions_of_level, cuts_of_level, seen_level, seen_clock_level, seen, seen_clock, clock_mentions, clock_cuts}
-use Rattle.clock_terms.specs.Nodes.{Node, is_of_clause, leading_clock, side_mentions, side_cuts, cut_node, cut_nodes, own_node, nodes_of_equation, nodes_from, nodes_of}
-use Rattle.clock_terms.specs.Source.{Kind, Every, kind_of}
+use Rattle.clock_terms.specs.declared.data.Cause.TheVariants.{Condition}
+use Rattle.clock_terms.specs.Mentions.{Mention, Stands, Ticks, Samples, Holds, Converts, Gives, Cut, SeenExpr, SeenClock, mentions_of, cuts_of, mentions_of_level, cuts_of_level, seen_level, seen_clock_level, seen, seen_clock, clock_mentions, clock_cuts}
+use Rattle.clock_terms.specs.Nodes.{Node, is_of_clause, leading_clock, side_mentions, side_cuts, cut_nodes, own_node, nodes_from, nodes_of}
+use Rattle.clock_terms.specs.Source.{Every}
 use Rattle.clock_terms.proofs.ClockKinds.{kind_of-Rational, kind_of-Inferred, kind_of-Event}
 use Rattle.clock_terms.proofs.Cutting.{cuts-Name, cuts-ClockConvert, cuts-Inferred, cuts-Rational, cuts-Event}
 use Rattle.clock_terms.proofs.Mentioned.{mentions-Name, mentions-ClockConvert, mentions-Inferred, mentions-Rational, mentions-Event}
@@ -64,7 +63,7 @@ at_least a b e = ⊎_elim (λ h. h.1) (λ h. absurd (false≢true (sym h.0 ∙ e
 abbrev HasType : Option NameKind → Type 0
 HasType o = (t : NameKind) × (o ≡ Some t)
 
-type_taken : (k : NameKind) (o : Option NameKind) → is_type k o ≡ true → HasType o
+pub type_taken : (k : NameKind) (o : Option NameKind) → is_type k o ≡ true → HasType o
 type_taken kind.Integer (Some k) e = (k, refl)
 type_taken kind.Boolean (Some k) e = (k, refl)
 type_taken kind.Clock (Some k) e = (k, refl)
@@ -111,14 +110,14 @@ module _ (types : Types) where
   abbrev pub IsBelow : ℕ → Type 0
   IsBelow x = (k : NameKind) × (types x ≡ Some k)
 
-  -- a name is one of the model, and the numbers of a conversion and of a constructor are within their limits
+  -- a name is one of the model, the numbers of a conversion and of a constructor are within their limits, and a constructor is typed
   abbrev pub IsGood : Mention → Type 0
   IsGood (Stands x) = IsBelow x
   IsGood Ticks = Unit {0}
   IsGood Samples = Unit {0}
   IsGood (Holds x) = IsBelow x
   IsGood (Converts by x) = IsBelow x × (has_counters by ≡ true)
-  IsGood (Gives given) = IsGivenClock given
+  IsGood (Gives given) = IsGivenClock given × (is_typed_clock types given ≡ true)
 
   abbrev pub IsGoodCut : Cut → Type 0
   IsGoodCut cut = Each IsGood cut.mentions
@@ -136,7 +135,7 @@ module _ (types : Types) where
   unfolding whole_type_of is_typed_clock
   whole_roll y = fold-roll-Expr Bool (Option NameKind) (clock_level types) (whole_level types) y
 
-  clock_typed_roll : (y : ClockExpr-F ClockExpr Expr) → is_typed_clock types (roll-ClockExpr y) ≡ clock_level types (map-ClockExpr ClockExpr Expr Bool (Option NameKind) (is_typed_clock types) (whole_type_of types) y)
+  pub clock_typed_roll : (y : ClockExpr-F ClockExpr Expr) → is_typed_clock types (roll-ClockExpr y) ≡ clock_level types (map-ClockExpr ClockExpr Expr Bool (Option NameKind) (is_typed_clock types) (whole_type_of types) y)
   unfolding whole_type_of is_typed_clock
   clock_typed_roll y = fold-roll-ClockExpr Bool (Option NameKind) (clock_level types) (whole_level types) y
 
@@ -248,6 +247,9 @@ module _ (types : Types) where
     is_clock_with : (k : ClockExpr) (m : List Mention) (c : List Cut) → (seen_clock k).mentions ≡ m → (seen_clock k).cuts ≡ c → AreGood m c → AreGood (seen_clock k).mentions (seen_clock k).cuts
     is_clock_with k m c em ec h = (subst (λ l. Each IsGood l) (sym em) h.0, subst (λ l. Each IsGoodCut l) (sym ec) h.1)
 
+    typed_as : {a b : ClockExpr} → a ≡ b → is_typed_clock types a ≡ true → is_typed_clock types b ≡ true
+    typed_as same e = subst (λ k. is_typed_clock types k ≡ true) same e
+
     clock_rolled : (y : ClockExpr-F A B) → IsGoodClock (roll-ClockExpr (raised_clock y))
     clock_rolled (ClockExpr-F.Name x) e c =
         subst (λ k. AreGood (seen_clock k).mentions (seen_clock k).cuts) (sym (clock.rolls-Name x))
@@ -255,17 +257,17 @@ module _ (types : Types) where
         ((clock_below x (types x) refl (sym (clock_typed_roll (ClockExpr-F.Name x)) ∙ e), tt), tt))
     clock_rolled ClockExpr-F.Inferred e c =
         subst (λ k. AreGood (seen_clock k).mentions (seen_clock k).cuts) (sym clock.rolls-Inferred)
-        (is_clock_with clock.Inferred (Gives clock.Inferred ∷ []) [] mentions-Inferred cuts-Inferred ((subst IsGivenKind (sym kind_of-Inferred) tt, tt), tt))
+        (is_clock_with clock.Inferred (Gives clock.Inferred ∷ []) [] mentions-Inferred cuts-Inferred (((subst IsGivenKind (sym kind_of-Inferred) tt, typed_as (clock.rolls-Inferred) e), tt), tt))
     clock_rolled (ClockExpr-F.Rational n r) e c =
         subst (λ k. AreGood (seen_clock k).mentions (seen_clock k).cuts) (sym (clock.rolls-Rational n r))
         (is_clock_with (clock.Rational n r) (Gives (clock.Rational n r) ∷ []) [] (mentions-Rational n r) (cuts-Rational n r)
-        ((subst IsGivenKind (sym (kind_of-Rational n r)) (counter_within n r (sym (clock_counters_roll (ClockExpr-F.Rational n r)) ∙ c)), tt), tt))
+        (((subst IsGivenKind (sym (kind_of-Rational n r)) (counter_within n r (sym (clock_counters_roll (ClockExpr-F.Rational n r)) ∙ c)), typed_as (clock.rolls-Rational n r) e), tt), tt))
     clock_rolled (ClockExpr-F.Event b) e c =
         let own = type_taken kind.Boolean (whole_type_of types (g b)) (sym (clock_typed_roll (ClockExpr-F.Event (g b))) ∙ e) in
         let h = all b own.0 own.1 (sym (clock_counters_roll (ClockExpr-F.Event (g b))) ∙ c) in
         subst (λ k. AreGood (seen_clock k).mentions (seen_clock k).cuts) (sym (clock.rolls-Event (g b)))
         (is_clock_with (clock.Event (g b)) (Gives (clock.Event (g b)) ∷ []) (record { cause = Condition; mentions = (seen (g b)).mentions } ∷ (seen (g b)).cuts) (mentions-Event (g b)) (cuts-Event (g b))
-        ((subst IsGivenKind (sym (kind_of-Event (g b))) tt, tt), h))
+        (((subst IsGivenKind (sym (kind_of-Event (g b))) tt, typed_as (clock.rolls-Event (g b)) e), tt), h))
     clock_rolled (ClockExpr-F.«ClockExpr::Convert» by x) e c =
         subst (λ k. AreGood (seen_clock k).mentions (seen_clock k).cuts) (sym (clock.rolls-Convert by x))
         (is_clock_with (clock.Convert by x) (Converts by x ∷ []) [] (mentions-ClockConvert by x) (cuts-ClockConvert by x)

@@ -1,10 +1,7 @@
 -- What stands uncut in an equation has its class.
-use Rattle.std.proofs.Common.{◌≡◌, ◌∙◌, refl, ap, sym, subst, ℕ, zero, suc, ◌+◌, ◌<◌, ◌⊎◌, inl, inr, ⊎_elim, Bool, true, false, if◌then◌else◌, List, [], ◌∷◌, ◌++◌, length, slice_get, get_or, Contains, Option, Some, None, arith}
-use Rattle.std.proofs.lemmas.Bool.{false≢true}
-use Rattle.std.proofs.lemmas.Option.{get_or_from_slice_get}
+use Rattle.std.proofs.Common.{◌≡◌, ◌∙◌, refl, ap, sym, subst, ℕ, ◌<◌, inl, inr, ⊎_elim, Bool, true, false, if◌then◌else◌, List, [], ◌∷◌, ◌++◌, slice_get, Contains, Some, None}
 use Rattle.std.proofs.lemmas.List.Elements.{Contains-append_left, Contains-append_right}
 use Rattle.rational_time.specs.declared.ratio.Ratio.{Ratio}
-use Rattle.flat_model.specs.declared.clock.ClockExpr.{ClockExpr}
 use Rattle.flat_model.specs.declared.clock.Clocking.{Clocking}
 use Rattle.flat_model.specs.declared.equation.Equation.{Equation}
 use Rattle.flat_model.specs.declared.equation.Equation.TheVariants.{Valued, Clocks}
@@ -16,53 +13,39 @@ use Rattle.flat_model.specs.Models.{IsModel}
 use Rattle.flat_model.specs.Occurrences.{uncut_count}
 use Rattle.flat_model.specs.Setting.{flattened}
 use Rattle.flat_model.specs.Typing.{types_in}
-use Rattle.mo_connect.specs.Chain.{Chain, stay, forward}
-use Rattle.mo_connect.proofs.Chains.{follow, reversed}
+use Rattle.mo_connect.specs.Chain.{stay, forward}
 use Rattle.clock_terms.specs.declared.data.Terms.{Terms}
 use Rattle.clock_terms.specs.declared.data.Classes.{Classes}
 use Rattle.clock_terms.specs.Classing.{IsMember, AreClassesOf, class_in, is_clocked}
 use Rattle.clock_terms.specs.Mentions.{Mention, Stands, seen, clock_mentions}
-use Rattle.clock_terms.specs.Nodes.{Node, nodes_of, own_node, side_mentions}
-use Rattle.clock_terms.specs.Said.{AreTermsOf, IsNode, IsNamed, numbered, AreOfOneClass}
+use Rattle.clock_terms.specs.Nodes.{Node, nodes_of, own_node}
+use Rattle.clock_terms.specs.Said.{IsNode, IsNamed, numbered, IsJoined, AreOfOneClass}
 use Rattle.clock_terms.proofs.Joining.{cons_cases, in_none}
 use Rattle.clock_terms.proofs.Marking.{get_below}
 use Rattle.sub_clock_solve.specs.Solving.{place_of}
 use Rattle.clock_check.specs.ClockingOf.{number_in, class_of_name, IsClockingOf}
-use Rattle.clock_ready.specs.Laws.{NoneHasBothMarks, IsSideOwn, IsEquationOwn}
+use Rattle.clock_ready.specs.Laws.{NoneHasBothMarks, IsEquationOwn}
 use Rattle.clock_ready.proofs.Equations.{own_node_of}
 use Rattle.clock_ready.proofs.Fitting.{named}
 use Rattle.clock_ready.proofs.Good.{Each, each_at, IsGood, IsGoodNode, model_good}
+use Rattle.clock_ready.proofs.Numbers.{same_number}
 use Rattle.clock_ready.proofs.Shown.{uncut_shown}
 
-each_contained : {X : Type 0} (P : X → Type 0) (xs : List X) (x : X) → Each P xs → Contains xs x → P x
+pub each_contained : {X : Type 0} (P : X → Type 0) (xs : List X) (x : X) → Each P xs → Contains xs x → P x
 each_contained P [] x h c = absurd (in_none x c)
 each_contained P (y ∷ ys) x h c = ⊎_elim (λ e. subst P e h.0) (λ rest. each_contained P ys x h.1 rest) (cons_cases y ys x c)
 
 module _ (model : FlatModel) (classes : Classes) (k : AreClassesOf model classes) where
   -- two members of one class have one number
   pub same_class : (a b : ℕ) → IsMember model a → IsMember model b → AreOfOneClass model a b → class_in classes a ≡ class_in classes b
-  same_class a b in_a in_b joined =
-      let (first, at_first, to_a, le_a) = k.numbered_by.found a in_a in
-      let (second, at_second, to_b, le_b) = k.numbered_by.found b in_b in
-      let c = class_in classes a in
-      let d = class_in classes b in
-      let lt_c = get_below k.firsts c first at_first in
-      let lt_d = get_below k.firsts d second at_second in
-      let both : AreOfOneClass model first second = follow _ first b second (follow _ first a b to_a joined) (reversed _ second b to_b) in
-      let get_first : get_or k.firsts c 0 ≡ first = get_or_from_slice_get k.firsts c first 0 at_first in
-      let get_second : get_or k.firsts d 0 ≡ second = get_or_from_slice_get k.firsts d second 0 at_second in
-      let not_less : c < d → ⊥ = λ lt. k.numbered_by.apart c d 0 lt lt_d
-      (subst (λ x. AreOfOneClass model x (get_or k.firsts d 0)) (sym get_first) (subst (λ x. AreOfOneClass model first x) (sym get_second) both)) in
-      let not_more : d < c → ⊥ = λ lt. k.numbered_by.apart d c 0 lt lt_c
-      (subst (λ x. AreOfOneClass model x (get_or k.firsts c 0)) (sym get_second) (subst (λ x. AreOfOneClass model second x) (sym get_first) (reversed _ first second both))) in
-      omega arith
+  same_class a b in_a in_b joined = same_number (IsJoined model) (IsMember model) k.firsts (class_in classes) k.numbered_by a b in_a in_b joined
 
-  node_member : (j : ℕ) (node : Node) → IsNode model j node → IsMember model (numbered model j)
+  pub node_member : (j : ℕ) (node : Node) → IsNode model j node → IsMember model (numbered model j)
   node_member j node is = inr (j, refl, get_below (nodes_of model) j node is)
 
   module _ (apart : NoneHasBothMarks model classes) where
     -- a name that stands uncut in a node has the class of the node
-    name_in_node : (j : ℕ) (node : Node) (y : ℕ) (name : FlatName) → IsNode model j node → IsNamed model y name → Contains node.mentions (Stands y)
+    pub name_in_node : (j : ℕ) (node : Node) (y : ℕ) (name : FlatName) → IsNode model j node → IsNamed model y name → Contains node.mentions (Stands y)
         → class_of_name classes y name ≡ number_in classes (class_in classes (numbered model j))
     name_in_node j node y name is named shown = by name.input refl
       where

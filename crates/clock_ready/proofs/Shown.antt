@@ -1,6 +1,5 @@
 -- What stands uncut in an expression is mentioned in it.
-use Rattle.std.proofs.Common.{◌≡◌, refl, ap, sym, subst, ℕ, zero, suc, ◌+◌, ◌<◌, ◌==◌, ◌⊎◌, inl, inr, ⊎_elim, Bool, true, false, List, [], ◌∷◌, ◌++◌, map, sum, Contains, Option, Some, None, arith}
-use Rattle.std.proofs.lemmas.Bool.{false≢true}
+use Rattle.std.proofs.Common.{◌≡◌, sym, subst, ℕ, zero, suc, ◌+◌, ◌<◌, ◌==◌, ◌⊎◌, inl, inr, ⊎_elim, List, [], ◌∷◌, ◌++◌, map, sum, Contains, Some, None, arith}
 use Rattle.std.proofs.lemmas.Bool.Decides.{eqb_tells}
 use Rattle.std.proofs.lemmas.List.Sums.{sum_by-cons}
 use Rattle.std.proofs.lemmas.List.Elements.{Contains-append_left, Contains-append_right}
@@ -10,24 +9,24 @@ use Rattle.flat_model.specs.declared.clock.ClockExpr.TheOpen.{Expr-F}
 use Rattle.flat_model.specs.declared.clock.ClockExpr.TheViews.{roll-Expr}
 use Rattle.flat_model.specs.declared.clock.ClockExpr.TheFolds.{ind-Expr, fold-roll-Expr, map-Expr}
 use Rattle.flat_model.specs.Occurrences.{one_if, uncut_in_level, uncut_count}
-use Rattle.clock_terms.specs.Mentions.{Mention, Stands, Ticks, SeenExpr, SeenClock, mentions_of, mentions_of_level, seen_level, seen_clock_level, seen, seen_clock}
+use Rattle.clock_terms.specs.Mentions.{Stands, Ticks, SeenExpr, SeenClock, mentions_of, mentions_of_level, seen_level, seen_clock_level, seen, seen_clock}
 use Rattle.clock_terms.proofs.Joining.{here, there}
 
-nothing : {A : Type 0} → 0 < 0 → A
+pub nothing : {A : Type 0} → 0 < 0 → A
 nothing h = absurd (omega (arith, h))
 
-either : (a b : ℕ) → 0 < a + b → (0 < a) ⊎ (0 < b)
+pub either : (a b : ℕ) → 0 < a + b → (0 < a) ⊎ (0 < b)
 either zero b h = inr (omega (arith, h))
 either (suc a) b h = inl (omega arith)
 
-is_asked : (n y : ℕ) → 0 < one_if (n == y) → n ≡ y
+pub is_asked : (n y : ℕ) → 0 < one_if (n == y) → n ≡ y
 is_asked n y some = ⊎_elim (λ h. h.1) (λ h. nothing (subst (λ b. 0 < one_if b) h.0 some)) (eqb_tells n y)
 
 uncut_roll : (x : ℕ) (y : Expr-F ClockExpr Expr) → uncut_count x (roll-Expr y) ≡ uncut_in_level x (map-Expr ClockExpr Expr (Unit {0}) ℕ (λ _. tt) (uncut_count x) y)
 unfolding uncut_count
 uncut_roll x y = fold-roll-Expr (Unit {0}) ℕ (λ _. tt) (uncut_in_level x) y
 
-seen_roll : (y : Expr-F ClockExpr Expr) → seen (roll-Expr y) ≡ seen_level (map-Expr ClockExpr Expr SeenClock SeenExpr seen_clock seen y)
+pub seen_roll : (y : Expr-F ClockExpr Expr) → seen (roll-Expr y) ≡ seen_level (map-Expr ClockExpr Expr SeenClock SeenExpr seen_clock seen y)
 unfolding seen seen_clock
 seen_roll y = fold-roll-Expr SeenClock SeenExpr seen_clock_level seen_level y
 

@@ -1,5 +1,5 @@
 -- Laws of the clocks of a model.
-use Rattle.std.specs.Prelude.{◌≡◌, ◌⊎◌, ℕ, ◌<◌, List, Some, slice_get, Result, Ok, Err, All}
+use Rattle.std.specs.Prelude.{◌≡◌, ◌⊎◌, ℕ, ◌<◌, List, Some, slice_get, Result, Err, All}
 use Rattle.rational_time.specs.declared.ratio.Ratio.{Ratio}
 use Rattle.flat_model.specs.declared.clock.Clocking.{Clocking}
 use Rattle.flat_model.specs.declared.equation.Equation.{Equation}

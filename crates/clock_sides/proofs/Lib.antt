@@ -1,0 +1,14 @@
+pub mod Lists
+pub mod Counted
+pub mod Asked
+pub mod Standing
+pub mod Direct
+pub mod Owned
+pub mod Placed
+pub mod Axes
+pub mod Events
+pub mod Facts
+pub mod Clocks
+pub mod Sides
+pub mod Conditions
+pub mod Whole
