@@ -1,0 +1,11 @@
+pub mod Faults
+pub mod N1
+pub mod N2
+pub mod Names
+pub mod Places
+pub mod Reached
+pub mod Sources
+pub mod Spelled
+pub mod Tables
+pub mod Types
+pub mod private

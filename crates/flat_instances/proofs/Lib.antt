@@ -1,0 +1,3 @@
+pub mod Givings
+pub mod Outer
+pub mod Walking
