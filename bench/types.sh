@@ -53,12 +53,7 @@ const MODELS: [(&[u8], Side, u32); 6] = [
     (b"levels-half", Side::Levels(32), 5_000),
 ];
 
-fn chain_of_two(
-    alloc: Global,
-    a: RawExpr,
-    op: ChainOp,
-    b: RawExpr,
-) -> Result<RawExpr, AllocError> {
+fn chain_of_two(alloc: Global, a: RawExpr, op: ChainOp, b: RawExpr) -> Result<RawExpr, AllocError> {
     let mut parts = List::new(alloc);
     let mut ops = List::new(alloc);
     let first = parts.push(a);

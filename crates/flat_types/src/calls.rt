@@ -197,9 +197,10 @@ fn apart(parts: List<Outcome>) -> Few
     let Some(first) = parts.pop() else {
         return Few::One(last);
     };
-    match parts.is_empty().then_some((first, last)) {
-        Some((first, last)) => Few::Two(first, last),
-        None => Few::More,
+    if parts.is_empty() {
+        Few::Two(first, last)
+    } else {
+        Few::More
     }
 }
 

@@ -4,7 +4,7 @@ ghost use Rattle.flat_model.specs.RawModels.{AreClausesUsed};
 ghost use Rattle.flat_model.specs.declared.raw.RawEq.{RawEq};
 
 use crate::models::Arg::{Name, Number, Truth};
-use crate::models::{Arg, B, C, U, X, argument, call, names};
+use crate::models::{Arg, B, C, U, V, X, argument, call, names};
 use flat_model::{RawEq, RawExpr, RawModel};
 use flat_types::{TypeCode, TypeEnd, typed};
 use std::alloc::{AllocError, Global};
@@ -13,7 +13,7 @@ use sync_values::List;
 
 /// The clock of a clause: a function, which has no name where its one argument stands alone, and its arguments; and the
 /// rule that it breaks.
-const CLOCKS: [(&[u8], &[Arg], Option<TypeCode>); 15] = [
+const CLOCKS: [(&[u8], &[Arg], Option<TypeCode>); 16] = [
     (b"", &[Name(C)], None),
     (b"Clock", &[], None),
     (b"Clock", &[Number(2)], None),
@@ -24,6 +24,8 @@ const CLOCKS: [(&[u8], &[Arg], Option<TypeCode>); 15] = [
     (b"", &[Truth], Some(TypeCode::Y5)),
     (b"previous", &[Name(B)], Some(TypeCode::Y5)),
     (b"firstTick", &[], Some(TypeCode::Y5)),
+    // A Boolean is told before the rule that the argument of `hold` is no input.
+    (b"hold", &[Name(V)], Some(TypeCode::Y5)),
     (b"", &[Name(X)], Some(TypeCode::Y1)),
     (b"", &[Number(1)], Some(TypeCode::Y1)),
     (b"previous", &[Number(3)], Some(TypeCode::Y2)),

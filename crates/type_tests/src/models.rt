@@ -19,7 +19,7 @@ pub enum Arg {
 
 use Arg::{ByZero, IntervalFirst, IntervalOf, IntervalSecond, Name, Number, Truth};
 
-/// The names of all cases: the Integer x, the input u, the Boolean b and the Clock c.
+/// The names of all cases: the Integer x, the Integer input u, the Boolean b, the Clock c and the Boolean input v.
 pub const X: u32 = 0;
 
 pub const U: u32 = 1;
@@ -27,6 +27,8 @@ pub const U: u32 = 1;
 pub const B: u32 = 2;
 
 pub const C: u32 = 3;
+
+pub const V: u32 = 4;
 
 fn name(
     alloc: Global,
@@ -50,6 +52,7 @@ pub fn names(alloc: Global) -> Result<List<FlatName>, AllocError> {
     names.push(name(alloc, b"u", NameKind::Integer, true, Value::Int(0))?)?;
     names.push(name(alloc, b"b", NameKind::Boolean, false, Value::Bool(false))?)?;
     names.push(name(alloc, b"c", NameKind::Clock, false, Value::Int(0))?)?;
+    names.push(name(alloc, b"v", NameKind::Boolean, true, Value::Bool(false))?)?;
     Ok(names)
 }
 
