@@ -1,4 +1,4 @@
-//! Tests of the order in which equations give values to names, and of its stages.
+//! Tests of solving equations, of the order in which they give values to names, and of its stages.
 #![tactic(auto)]
 
 #[cfg(test)]
@@ -7,3 +7,5 @@ mod fine;
 mod models;
 #[cfg(test)]
 mod orders;
+#[cfg(test)]
+mod solving;
