@@ -1,1 +1,3 @@
 pub mod Side
+pub mod Showing
+pub mod Turns

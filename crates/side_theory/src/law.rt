@@ -1,6 +1,12 @@
 ghost use Rattle.side_theory.specs.Sides.{SideLaw};
+ghost use Rattle.side_theory.specs.Stretches.{StretchLaw};
 
 /// A use of an equation `name = side` does over a row what its side answers there.
 pub fn side_law()
     ensures { SideLaw }
+{}
+
+/// Equations evaluated one after the other, each over the views with the values before it, take their uses.
+pub fn stretch_law()
+    ensures { StretchLaw }
 {}
