@@ -1,3 +1,4 @@
 pub mod Side
 pub mod Showing
 pub mod Turns
+pub mod Answering

@@ -1,5 +1,6 @@
 ghost use Rattle.side_theory.specs.Sides.{SideLaw};
 ghost use Rattle.side_theory.specs.Stretches.{StretchLaw};
+ghost use Rattle.side_theory.specs.Typed.{TypedLaw};
 
 /// A use of an equation `name = side` does over a row what its side answers there.
 pub fn side_law()
@@ -9,4 +10,9 @@ pub fn side_law()
 /// Equations evaluated one after the other, each over the views with the values before it, take their uses.
 pub fn stretch_law()
     ensures { StretchLaw }
+{}
+
+/// The side of a use that counts has a value of its name's type, or fails.
+pub fn typed_law()
+    ensures { TypedLaw }
 {}

@@ -6,4 +6,4 @@
 
 mod law;
 
-pub use law::{side_law, stretch_law};
+pub use law::{side_law, stretch_law, typed_law};
