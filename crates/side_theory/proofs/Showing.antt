@@ -56,7 +56,7 @@ module _ (s : Setting) (unclocked : AreSitesUnclocked s) (S : Assignment) (m : �
   other_same : (y : ℕ) → y ≢ x → A y m ≡ B y m
   other_same y other = row_now S m row y ∙ sym (put_other y (y == x) refl other) ∙ sym (row_now S m (put row x v) y)
 
-  ticks_same : (c : Option ℕ) → class_ticks s A c m ≡ class_ticks s B c m
+  pub ticks_same : (c : Option ℕ) → class_ticks s A c m ≡ class_ticks s B c m
   ticks_same c = class_ticks_by_site s A B c m before (site_same s A B m c unclocked (λ y reads. other_same y (sites c y reads)))
 
   ticks_earlier : (c : Option ℕ) (j : ℕ) → j < m → class_ticks s A c j ≡ class_ticks s B c j

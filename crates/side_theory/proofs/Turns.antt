@@ -19,7 +19,7 @@ use Rattle.side_theory.specs.Stretches.{IsSameAt, AreShown, AreLinesOf, AreCount
 use Rattle.side_theory.proofs.Side.{SideFacts, side_facts, does_as}
 use Rattle.side_theory.proofs.Showing.{all_shown}
 
-same_at : (v w : Views) (d : ℕ) (q : Asking) → IsSameAt v w d q → SameAt v w d q
+pub same_at : (v w : Views) (d : ℕ) (q : Asking) → IsSameAt v w d q → SameAt v w d q
 same_at v w d (OfNow x) h = h
 same_at v w d (OfLast x) h = h
 same_at v w d (OfPrevious x) h = h
