@@ -138,31 +138,31 @@ module _ (at : Cells) (t : ℕ) (apart : AreApart at) where
     by_name f none true same = absurd (new.0 (sym (eqb-true l.name x same)))
     by_name f none false same = none
 
-  after_line : (code rest : List Instr) (cells after : List ℤ) (e : Ended) → ran (code ++ rest) 0 cells ≡ ran rest 0 after → length after ≡ length cells → RunsAs at t rest after e → RunsAs at t (code ++ rest) cells e
-  after_line code rest cells after (All views) runs size r = (r.0, runs ∙ r.1, r.2 ∙ size, r.3)
-  after_line code rest cells after (Failed views kind line behind) runs size r = (r.0, r.1, runs ∙ r.2, r.3, r.4, r.5 ∙ size, r.6)
-  after_line code rest cells after Missing runs size r = tt
+  after_line : (l : Line) (ls : List Line) (code rest : List Instr) (cells after : List ℤ) (e : Ended) → ran (code ++ rest) 0 cells ≡ ran rest 0 after → IsKept l.cell t cells after → RunsAs at t ls rest after e → RunsAs at t (l ∷ ls) (code ++ rest) cells e
+  after_line l ls code rest cells after (All views) runs kept r = (r.0, runs ∙ r.1, r.2 ∙ kept.size, r.3, λ c below none. r.4 c below none.1 ∙ kept.same c below none.0)
+  after_line l ls code rest cells after (Failed views kind line behind) runs kept r = (r.0, r.1, runs ∙ r.2, r.3, r.4, r.5 ∙ kept.size, r.6, λ c below none. r.7 c below none.1 ∙ kept.same c below none.0)
+  after_line l ls code rest cells after Missing runs kept r = tt
 
   line_ends : (ls : List Line) (cells : List ℤ) (views : Views) (l : Line) (a : Answer) → AreTruths at views
-      → ((cells : List ℤ) (views : Views) → AreTruths at views → AreLines at t views ls → Holds at cells t views → AreWithin (length cells) (lines_code at t ls) → RunsAs at t (lines_code at t ls) cells (lines_end ls views))
+      → ((cells : List ℤ) (views : Views) → AreTruths at views → AreLines at t views ls → Holds at cells t views → AreWithin (length cells) (lines_code at t ls) → RunsAs at t ls (lines_code at t ls) cells (lines_end ls views))
       → value_of l.side views ≡ a → AreLines at t views (l ∷ ls) → Holds at cells t views → AreWithin (length cells) (lines_code at t (l ∷ ls))
       → Gives ((piece_of at l.side).code l.cell t) cells l.cell t l.cell a
-      → RunsAs at t (lines_code at t (l ∷ ls)) cells (ended_by a views l ls (lines_end ls))
+      → RunsAs at t (l ∷ ls) (lines_code at t (l ∷ ls)) cells (ended_by a views l ls (lines_end ls))
   line_ends ls cells views l (Is v) truths next is lines holds within g =
       let code = (piece_of at l.side).code l.cell t in
       let rest = lines_code at t ls in
       let kept = holds_kept cells g.after views l lines.0 lines.1 lines.2 g.kept holds in
-      after_line code rest cells g.after (lines_end ls (given l.name v views)) (g.runs rest) g.kept.size
+      after_line l ls code rest cells g.after (lines_end ls (given l.name v views)) (g.runs rest) g.kept
       (next g.after (given l.name v views) (truths_given views l.name v (λ truth. (code_right at views truths l.side lines.0.known).truth (lines.0.truth truth) v is) truths) (lines_given views l.name v ls lines.3 lines.4)
       (holds_given g.after views l v lines.0 g.word kept) (within_kept l.cell t cells g.after rest g.kept (within_back (length cells) code rest within)))
   line_ends ls cells views l (Fails kind) truths next is lines holds within g =
       let code = (piece_of at l.side).code l.cell t in
       let rest = lines_code at t ls in
-      (g.after, g.left + length rest, g.stops rest, omega arith, stopped_within (code ++ rest) 0 cells g.after kind (g.left + length rest) (g.stops rest), g.kept.size, holds_kept cells g.after views l lines.0 lines.1 lines.2 g.kept holds)
+      (g.after, g.left + length rest, g.stops rest, omega arith, stopped_within (code ++ rest) 0 cells g.after kind (g.left + length rest) (g.stops rest), g.kept.size, holds_kept cells g.after views l lines.0 lines.1 lines.2 g.kept holds, λ c below none. g.kept.same c below none.0)
   line_ends ls cells views l Absent truths next is lines holds within g = tt
 
-  pub lines_run : (ls : List Line) (cells : List ℤ) (views : Views) → AreTruths at views → AreLines at t views ls → Holds at cells t views → AreWithin (length cells) (lines_code at t ls) → RunsAs at t (lines_code at t ls) cells (lines_end ls views)
-  lines_run [] cells views truths lines holds within = (cells, refl, refl, holds)
+  pub lines_run : (ls : List Line) (cells : List ℤ) (views : Views) → AreTruths at views → AreLines at t views ls → Holds at cells t views → AreWithin (length cells) (lines_code at t ls) → RunsAs at t ls (lines_code at t ls) cells (lines_end ls views)
+  lines_run [] cells views truths lines holds within = (cells, refl, refl, holds, λ c below none. refl)
   lines_run (l ∷ ls) cells views truths lines holds within =
       line_ends ls cells views l (value_of l.side views) truths (lines_run ls) refl lines holds within
       (code_gives at views truths l.side lines.0.known cells l.cell t lines.0.below (stands cells views l lines.0 lines.1 lines.2 holds) (within_front (length cells) ((piece_of at l.side).code l.cell t) (lines_code at t ls) within))

@@ -19,7 +19,7 @@ CodeLaw = (at : Cells) (views : Views) → AreTruths at views → (e : Expr) →
 -- the code of several equations ends as the equations do
 abbrev pub LinesLaw : Type 0
 LinesLaw = (at : Cells) (t : ℕ) → AreApart at → (lines : List Line) (cells : List ℤ) (views : Views) → AreTruths at views → AreLines at t views lines → Holds at cells t views
-    → AreWithin (length cells) (lines_code at t lines) → RunsAs at t (lines_code at t lines) cells (lines_end lines views)
+    → AreWithin (length cells) (lines_code at t lines) → RunsAs at t lines (lines_code at t lines) cells (lines_end lines views)
 
 -- a typed expression is known where all that it reads has cells, and the Boolean names are marked
 abbrev pub KnownLaw : Type 0

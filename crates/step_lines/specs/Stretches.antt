@@ -6,7 +6,7 @@ use Rattle.step_code.specs.declared.compile.NoCode.{NoCode}
 use Rattle.step_code.specs.Code.{Cells, piece_of}
 use Rattle.step_code.specs.Correct.{AreTruths}
 use Rattle.step_code.specs.Emits.{IsRefused}
-use Rattle.step_code.specs.Lines.{Line, lines_code, Ended, All, Failed, Missing, lines_end, Holds, AreApart, AreLines}
+use Rattle.step_code.specs.Lines.{Line, lines_code, Ended, All, Failed, Missing, lines_end, Holds, AreApart, AreLines, IsKeptBut}
 use Rattle.step_lines.specs.declared.running.Failing.{Failing}
 use Rattle.step_lines.specs.declared.stretch.Line as given
 use Rattle.step_lines.specs.declared.stretch.Stretch.{Stretch}
@@ -47,13 +47,13 @@ pub record IsFailing (ls : List Line) (line : Line) (behind : List Line) (place 
   pub found : slice_get ls place ≡ Some line
   pub rest : drop (suc place) ls ≡ behind
 
--- a run of equations ends as they do: the cells hold all values, or those before the first that fails
-abbrev pub EndsAs : Cells → ℕ → List ℤ → List Line → Ended → Option Failing → Type 0
-EndsAs at t cells ls (All views) result = (result ≡ None) × Holds at cells t views
-EndsAs at t cells ls (Failed views kind line behind) result = (failing : Failing) × (result ≡ Some failing) × (failing.kind ≡ kind) × IsFailing ls line behind failing.place × Holds at cells t views
-EndsAs at t cells ls Missing result = Unit {0}
+-- a run of equations ends as they do: the cells hold all values, or those before the first that fails, and no other cells below the free ones changed
+abbrev pub EndsAs : Cells → ℕ → List ℤ → List ℤ → List Line → Ended → Option Failing → Type 0
+EndsAs at t old cells ls (All views) result = (result ≡ None) × Holds at cells t views × IsKeptBut t ls old cells
+EndsAs at t old cells ls (Failed views kind line behind) result = (failing : Failing) × (result ≡ Some failing) × (failing.kind ≡ kind) × IsFailing ls line behind failing.place × Holds at cells t views × IsKeptBut t ls old cells
+EndsAs at t old cells ls Missing result = Unit {0}
 
 -- what a run of a stretch does, whatever equations it has the code of and whatever views the cells hold
 abbrev pub RunsLines : Stretch → List ℤ → List ℤ → Option Failing → Type 0
 RunsLines stretch old new result = (at : Cells) (t : ℕ) (ls : List Line) → IsStretch at t ls stretch → AreApart at → (views : Views) → AreTruths at views → AreLines at t views ls → Holds at old t views
-    → EndsAs at t new ls (lines_end ls views) result
+    → EndsAs at t old new ls (lines_end ls views) result

@@ -2,7 +2,8 @@ use flat_model::{Conversion, Expr, Fun};
 use sqlite_items::Boxed;
 use std::alloc::Global;
 use std::process::Abort;
-use step_code::{Backward, Constant, Instr, Measure, NoCode, Places, Stop, Table, emit, fits, run};
+use step_code::{Backward, Constant, Instr, Measure, NoCode, Places, Table, emit, fits, run};
+use step_lines::{Failing, Line, cells_of, prepare_lines, run_lines};
 use sync_values::{ChainOp, Fail, List, Rel, Value};
 
 /// Parts of an expression, each behind its operands.
@@ -581,31 +582,55 @@ fn code_fits_where_all_its_cells_are(rt: HostRuntime) {
     assert!(rt; fits(&[], 0));
 }
 
+/// The value of x0 at the tick before, the failure with its place, and the cells of the names after the run.
+const RUNS: [(i64, Option<Failing>, [i64; 3]); 3] = [
+    (5, None, [6, 3, 1]),
+    (4, None, [6, 1, 1]),
+    (
+        6,
+        Some(Failing {
+            place: 1,
+            kind: Divide,
+        }),
+        [6, 0, 1],
+    ),
+];
+
+/// An equation whose name has the cell of its number.
+fn line(name: u32, side: &Expr) -> Line<'_> {
+    Line {
+        name,
+        cell: name,
+        side,
+    }
+}
+
 #[test]
 fn equations_run_up_to_the_first_that_fails(rt: HostRuntime) {
-    // x0 = 3 * 2; x1 = div(x0, 0); x2 = not x2
-    let sides: [(u32, &[Part]); 3] = [
-        (2, &[Now(2), Not]),
-        (1, &[Now(0), Number(0), Call(Fun::Div, 2)]),
-        (0, &[Number(3), Number(2), Join(Times, 2)]),
+    // x0 = 3 * 2; x1 = div(3, x0 - previous(x0)); x2 = not previous(x2)
+    let first = built(&rt, rt.alloc(), &[Number(3), Number(2), Join(Times, 2)]);
+    let difference = [
+        Number(3),
+        Now(0),
+        Previous(0),
+        Join(Minus, 2),
+        Call(Fun::Div, 2),
     ];
-    let mut out = Backward::new(rt.alloc());
-    for (to, parts) in &sides {
-        let expr = built(&rt, rt.alloc(), *parts);
-        emit(&mut out, &places(), &expr, *to, FREE).expect(&rt, "code");
+    let second = built(&rt, rt.alloc(), &difference);
+    let third = built(&rt, rt.alloc(), &[Previous(2), Not]);
+    let lines = [line(0, &first), line(1, &second), line(2, &third)];
+    let stretch = prepare_lines(rt.alloc(), &places(), &lines, FREE).expect(&rt, "code");
+    // 3 * 2; x0 - previous(x0) and the quotient; not
+    assert!(rt; stretch.code.len() == 4);
+    // the difference has the first free cell
+    assert!(rt; cells_of(&stretch.code) == 26);
+    for (before, wanted, names) in &RUNS {
+        let mut cells = CELLS;
+        cells[4] = *before;
+        assert!(rt; fits(&stretch.code, cells.len()));
+        assert!(rt; run_lines(&stretch, &mut cells) == *wanted);
+        for i in 0..3 {
+            assert!(rt; cells[i] == names[i]);
+        }
     }
-    let code = out.finish();
-    let mut cells = CELLS;
-    assert!(rt; fits(&code, 40));
-    let stop = run(&code, &mut cells);
-    // the code of the last equation is one instruction
-    assert!(rt;
-        stop == Some(Stop {
-            kind: Divide,
-            left: 1
-        })
-    );
-    assert!(rt; cells[0] == 6);
-    assert!(rt; cells[1] == 0);
-    assert!(rt; cells[2] == 1);
 }

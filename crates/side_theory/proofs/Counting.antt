@@ -1,0 +1,207 @@
+-- In a free order the uses of a stretch count.
+use Rattle.std.proofs.Common.{◌≡◌, ◌≢◌, refl, ap, sym, subst, ◌∙◌, ℕ, ◌<◌, ◌==◌, Bool, true, false, if◌then◌else◌, List, [], ◌∷◌, ◌++◌, append_assoc, Option, Some, None, IsSome, slice_get, Contains, ◌⊎◌, inl, inr, arith}
+use Rattle.std.proofs.lemmas.Bool.{false≢true, eqb-true, eq-eqb}
+use Rattle.std.proofs.lemmas.Option.{same_Some, none-some}
+use Rattle.sync_values.specs.declared.value.Value.{Value}
+use Rattle.flat_model.specs.declared.clock.Clock.{Clock}
+use Rattle.flat_model.specs.declared.clock.Clock.TheVariants.{Periodic, Event}
+use Rattle.flat_model.specs.declared.equation.Equation.{Equation}
+use Rattle.flat_model.specs.declared.equation.Equation.TheVariants.{Valued}
+use Rattle.flat_model.specs.declared.expression.Expr.{Expr}
+use Rattle.flat_model.specs.declared.expression.Expr.TheVariants.{Read}
+use Rattle.flat_model.specs.Assignment.{Assignment, IsOfKind}
+use Rattle.flat_model.specs.Clocks.{AreOnOneAxis}
+use Rattle.flat_model.specs.Given.{Row, with_row, HasLastValue, HasReadIn, CanUse}
+use Rattle.flat_model.specs.Meaning.{value_of}
+use Rattle.flat_model.specs.Occurrences.{one_if, converted_count}
+use Rattle.flat_model.specs.Operators.{Is}
+use Rattle.flat_model.specs.Runnable.{IsSideClocked}
+use Rattle.flat_model.specs.Setting.{Setting, class_of_name, class_of_equation, clock_of, partition_of, class_ticks, name_ticks, views_at}
+use Rattle.flat_model.specs.Uses.{Use, ClassesMeet, Reads}
+use Rattle.flat_model.proofs.Levels.{bare_count-Read, held_count-Read, converted_count-Read}
+use Rattle.moment_theory.specs.Free.{IsReachedBy, IsFree, AreFree, IsOrdered}
+use Rattle.moment_theory.specs.Taken.{put}
+use Rattle.moment_theory.proofs.Facts.{UseFacts, facts_of_use}
+use Rattle.moment_theory.proofs.FromRunnable.{facts_of}
+use Rattle.moment_theory.proofs.Meeting.{IsValued}
+use Rattle.moment_theory.proofs.Ready.{whole_order}
+use Rattle.moment_theory.proofs.Rows.{row_now, known_axis}
+use Rattle.moment_theory.proofs.Unknown.{known_where_ticks}
+use Rattle.step_code.specs.Lines.{Line}
+use Rattle.side_theory.specs.Counted.{Begins}
+use Rattle.side_theory.specs.Sides.{IsSideUse, IsAnswerOfKind, Counts}
+use Rattle.side_theory.specs.Stretches.{AreLinesOf, AreCounted}
+use Rattle.side_theory.specs.Typed.{IsTypedRow}
+use Rattle.side_theory.proofs.Side.{SideFacts, side_facts}
+use Rattle.side_theory.proofs.Answering.{is_answer}
+use Rattle.side_theory.proofs.Showing.{ticks_same}
+
+pub reached_split : (y : ℕ) (before rest : List Use) → IsReachedBy y (before ++ rest) → IsReachedBy y before ⊎ IsReachedBy y rest
+reached_split y [] rest reached = inr reached
+reached_split y (entry ∷ before) rest (inl is) = inl (inl is)
+reached_split y (entry ∷ before) rest (inr reached) = by (reached_split y before rest reached) where
+  by : IsReachedBy y before ⊎ IsReachedBy y rest → IsReachedBy y (entry ∷ before) ⊎ IsReachedBy y rest
+  by (inl h) = inl (inr h)
+  by (inr h) = inr h
+
+free_behind : (s : Setting) (before rest : List Use) → AreFree s (before ++ rest) → AreFree s rest
+free_behind s [] rest free = free
+free_behind s (entry ∷ before) rest free = free_behind s before rest free.1
+
+one_if_none : (b : Bool) → 0 < one_if b → b ≡ true
+one_if_none true h = refl
+one_if_none false h = absurd (omega (arith, h))
+
+no_axis : (c : Option Clock) → AreOnOneAxis c None → ⊥
+no_axis None axis = axis
+no_axis (Some (Periodic period start)) axis = axis
+no_axis (Some (Event site factor shift)) axis = axis
+
+module _ (s : Setting) (uses before later : List Use) (entry : Use) (ordered : IsOrdered s uses (before ++ (entry ∷ later))) (side : Expr) (class : ℕ) (used : Contains uses entry) (is : IsSideUse s entry side class)
+    (S : Assignment) (m : ℕ) (row : Row) (begins : Begins s S m row class before) where
+  abbrev A : Assignment
+  A = with_row S m row
+
+  abbrev own : Equation
+  own = Valued (Read entry.name) side is.clause
+
+  pub use_is : UseFacts s entry
+  use_is = facts_of_use s uses ordered.uses_are.uses_are entry used
+
+  pub facts : SideFacts s entry side class
+  facts = side_facts s uses ordered.runs ordered.uses_are.uses_are entry side class used is
+
+  free : IsFree s entry later
+  free = (free_behind s before (entry ∷ later) ordered.free).0
+
+  clocked : IsSideClocked s entry.equation side
+  clocked = (ordered.runs.equations entry.equation own is.found).1
+
+  pub ticks : class_ticks s A (class_of_equation s entry.equation) m ≡ true
+  ticks = ap (λ c. class_ticks s A c m) is.class_is ∙ begins.ticks
+
+  -- a clocked name that is read now was reached before, or it is the use's own
+  reached : (y : ℕ) → IsValued s y → class_of_name s y ≢ None → y ≢ entry.name → Reads s entry.equation y → IsReachedBy y before
+  reached y valued has_class other reads = by_order (reached_split y before (entry ∷ later) there)
+    where
+      no_input : (b : Bool) → valued.name.input ≡ b → b ≡ false
+      no_input true input = absurd (has_class (ordered.runs.inputs y (valued.name, valued.found, input)))
+      no_input false input = refl
+
+      there : IsReachedBy y (before ++ (entry ∷ later))
+      there = (whole_order s uses (before ++ (entry ∷ later)) ordered.uses_are ordered.same).names y valued.name valued.found valued.valued (no_input valued.name.input refl)
+
+      by_order : IsReachedBy y before ⊎ IsReachedBy y (entry ∷ later) → IsReachedBy y before
+      by_order (inl h) = h
+      by_order (inr (inl same)) = absurd (other same)
+      by_order (inr (inr h)) = absurd (free.reads y reads h)
+
+  has_value : (y : ℕ) → IsSome (row y) → IsSome (A y m)
+  has_value y some = subst IsSome (sym (row_now S m row y)) some
+
+  own_partition : (y : ℕ) → class_of_name s y ≡ class_of_equation s entry.equation → partition_of s (class_of_name s y) ≡ partition_of s (Some class)
+  own_partition y same = ap (partition_of s) (same ∙ is.class_is)
+
+  classed : (y : ℕ) → class_of_name s y ≡ class_of_equation s entry.equation → class_of_name s y ≢ None
+  classed y same none = none-some class (sym none ∙ same ∙ is.class_is)
+
+  right_has : (y : ℕ) → y ≢ entry.name → HasReadIn s A m entry.equation side y
+  right_has y other = record {
+    bare = λ some.
+        let of = (facts_of s ordered.runs).classed.sides entry.equation (Read entry.name) side is.clause is.found in
+        let (valued, same) = of.1.bare y some in
+        has_value y (begins.all y (reached y valued (classed y same) other (own, is.found, inr (inl some))) (own_partition y same) (ap (λ c. class_ticks s A c m) same ∙ ticks));
+    held = λ some. absurd (none-some class (sym (clocked.held y some).1 ∙ is.class_is));
+    converted = λ some meet. by_tick some meet (name_ticks s A y m) refl;
+  }
+    where
+      by_tick : 0 < converted_count y side → (meet : ClassesMeet s (class_of_equation s entry.equation) (class_of_name s y)) → (b : Bool) → name_ticks s A y m ≡ b → HasLastValue s A m y
+      by_tick some meet false rests = inl (known_axis s A m (clock_of s (class_of_equation s entry.equation)) (clock_of s (class_of_name s y)) (clocked.converted y some).axis (known_where_ticks s A m (class_of_equation s entry.equation) ticks), rests)
+      by_tick some meet true now =
+          let of = (facts_of s ordered.runs).classed.sides entry.equation (Read entry.name) side is.clause is.found in
+          let convertible = clocked.converted y some in
+          let has_class : class_of_name s y ≢ None = λ none. no_axis (clock_of s (class_of_equation s entry.equation)) (subst (λ c. AreOnOneAxis (clock_of s (class_of_equation s entry.equation)) (clock_of s c)) none convertible.axis) in
+          inr (has_value y (begins.all y (reached y (of.1.last y (inr some)) has_class other (own, is.found, inr (inr (inr (some, meet))))) (convertible.partition ∙ ap (partition_of s) is.class_is) now))
+
+  -- the left side reads the own name alone
+  left_has : (y : ℕ) → y ≢ entry.name → HasReadIn s A m entry.equation (Read entry.name) y
+  left_has y other = record {
+    bare = λ some. absurd (other (sym (eqb-true entry.name y (one_if_none (entry.name == y) (subst (λ n. 0 < n) (bare_count-Read y entry.name) some)))));
+    held = λ some. absurd (let none = held_count-Read y entry.name in omega (arith, some, none));
+    converted = λ some meet. absurd (let none = converted_count-Read y entry.name in omega (arith, some, none));
+  }
+
+  pub can_use : CanUse s A m entry own use_is.name
+  can_use = record {
+    equation_is = is.found;
+    name_is = use_is.name_found;
+    ticks = (known_where_ticks s A m (class_of_equation s entry.equation) ticks, ticks);
+    reads = λ y other. (left_has y other, right_has y other);
+  }
+
+  typed : IsAnswerOfKind use_is.name.kind (value_of side (views_at s A (Some class) m))
+  typed = is_answer s uses ordered.runs ordered.uses_are.uses_are entry side class used is S m row begins.meets begins.typed own use_is.name can_use
+
+  pub counts : Counts s S m row entry side class
+  counts = record {
+    equation = own;
+    name = use_is.name;
+    can = can_use;
+    typed = typed;
+  }
+
+  -- with the value of this use the next one begins
+  module _ (v : Value) (value_is : value_of side (views_at s A (Some class) m) ≡ Is v) where
+    own_typed : IsOfKind use_is.name.kind v
+    own_typed = subst (IsAnswerOfKind use_is.name.kind) value_is typed
+
+    typed_put : IsTypedRow s (put row entry.name v)
+    typed_put y name w found has = by_name (y == entry.name) refl has
+      where
+        same_some : (a b : Value) → Some a ≡ Some b → a ≡ b
+        same_some a b e = cc
+
+        by_name : (b : Bool) → y == entry.name ≡ b → (if b then Some v else row y) ≡ Some w → IsOfKind name.kind w
+        by_name true same is_w =
+            let y_is : y ≡ entry.name = eqb-true y entry.name same in
+            let name_same : use_is.name ≡ name = same_Some use_is.name name (sym use_is.name_found ∙ ap (slice_get s.model.names) (sym y_is) ∙ found) in
+            subst (λ n. IsOfKind n.kind w) name_same (subst (IsOfKind use_is.name.kind) (same_some v w is_w) own_typed)
+        by_name false same is_w = begins.typed y name w found is_w
+
+    abbrev B : Assignment
+    B = with_row S m (put row entry.name v)
+
+    pub still : (c : Option ℕ) → class_ticks s A c m ≡ class_ticks s B c m
+    still = ticks_same s (facts_of s ordered.runs).unclocked S m row class entry.name v begins.ticks facts.clocked facts.sites
+
+    put_some : (y : ℕ) → (y ≡ entry.name) ⊎ IsSome (row y) → IsSome (put row entry.name v y)
+    put_some y has = by_name (y == entry.name) refl has
+      where
+        by_name : (b : Bool) → y == entry.name ≡ b → (y ≡ entry.name) ⊎ IsSome (row y) → IsSome (if b then Some v else row y)
+        by_name true same has = refl
+        by_name false same (inr some) = some
+        by_name false same (inl is) = absurd (false≢true (sym same ∙ eq-eqb y entry.name is))
+
+    pub begins_next : (other : ℕ) → partition_of s (Some other) ≡ partition_of s (Some class) → class_ticks s A (Some other) m ≡ true → Begins s S m (put row entry.name v) other (before ++ (entry ∷ []))
+    begins_next other partition other_ticks = record {
+      meets = begins.meets;
+      typed = typed_put;
+      all = λ y reached same now. put_some y (by_order y (reached_split y before (entry ∷ []) reached) (same ∙ partition) (still (class_of_name s y) ∙ now));
+      ticks = sym (still (Some other)) ∙ other_ticks;
+    }
+      where
+        by_order : (y : ℕ) → IsReachedBy y before ⊎ IsReachedBy y (entry ∷ []) → partition_of s (class_of_name s y) ≡ partition_of s (Some class) → name_ticks s A y m ≡ true → (y ≡ entry.name) ⊎ IsSome (row y)
+        by_order y (inl h) same now = inr (begins.all y h same now)
+        by_order y (inr (inl is)) same now = inl is
+        by_order y (inr (inr h)) same now = absurd h
+
+pub are_counted : (s : Setting) (uses before entries after : List Use) → IsOrdered s uses (before ++ (entries ++ after)) → (class : ℕ) (lines : List Line) → AreLinesOf s uses class entries lines
+    → (S : Assignment) (m : ℕ) (row : Row) → Begins s S m row class before → AreCounted s S m class row entries lines
+are_counted s uses before [] after ordered class [] of S m row begins = tt
+are_counted s uses before [] after ordered class (l ∷ ls) of S m row begins = tt
+are_counted s uses before (entry ∷ entries) after ordered class [] of S m row begins = tt
+are_counted s uses before (entry ∷ entries) after ordered class (l ∷ ls) of S m row begins = (
+  counts s uses before (entries ++ after) entry ordered l.side class of.0.0 of.0.2 S m row begins,
+  λ v value_is. are_counted s uses (before ++ (entry ∷ [])) entries after (subst (IsOrdered s uses) (sym (append_assoc before (entry ∷ []) (entries ++ after))) ordered) class ls of.1 S m (put row entry.name v)
+      (begins_next s uses before (entries ++ after) entry ordered l.side class of.0.0 of.0.2 S m row begins v value_is class refl begins.ticks),
+)

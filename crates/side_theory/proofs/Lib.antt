@@ -1,0 +1,6 @@
+pub mod Side
+pub mod Showing
+pub mod Turns
+pub mod Answering
+pub mod Counting
+pub mod Onward

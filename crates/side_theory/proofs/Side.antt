@@ -1,0 +1,155 @@
+-- A use of an equation `name = side` gives the value of its side, or fails as it does.
+use Rattle.std.proofs.Common.{◌≡◌, ◌≢◌, refl, ap, sym, subst, ◌∙◌, ℕ, ◌-◌, Bool, true, false, if◌then◌else◌, List, [], ◌∷◌, ◌++◌, Option, Some, Contains, eq-eqb, arith, inl, inr}
+use Rattle.std.proofs.lemmas.Option.{same_Some, none-some}
+use Rattle.sync_values.specs.declared.value.Value.{Value}
+use Rattle.sync_values.specs.declared.value.Fail.{Fail}
+use Rattle.flat_model.specs.declared.equation.Equation.{Equation}
+use Rattle.flat_model.specs.declared.equation.Equation.TheVariants.{Valued}
+use Rattle.flat_model.specs.declared.expression.Expr.{Expr}
+use Rattle.flat_model.specs.declared.expression.Expr.TheVariants.{Read}
+use Rattle.flat_model.specs.Assignment.{Assignment, IsOfKind}
+use Rattle.flat_model.specs.Faults.{EquationFails}
+use Rattle.flat_model.specs.Given.{Row, with_row, with_value, CanUse}
+use Rattle.flat_model.specs.Meaning.{seen_by, value_of}
+use Rattle.flat_model.specs.Occurrences.{one_if, bare_count}
+use Rattle.flat_model.specs.Operators.{Answer, Is, Fails, Absent, read}
+use Rattle.flat_model.specs.Parts.{beside_of, way_to, parts_beside, kind_of}
+use Rattle.flat_model.specs.Runnable.{IsRunnable}
+use Rattle.flat_model.specs.Setting.{Setting, class_of_name, class_of_equation, class_ticks, views_at}
+use Rattle.flat_model.specs.Uses.{Use, AreUses, IsSolvableFor, SiteReads}
+use Rattle.flat_model.specs.Views.{Views}
+use Rattle.flat_model.proofs.Agreement.{SameBefore}
+use Rattle.flat_model.proofs.Levels.{bare_count-Read, way_to-Read}
+use Rattle.flat_model.proofs.Links.{asked_bare}
+use Rattle.flat_model.proofs.Sites.{class_ticks_by_site}
+use Rattle.flat_model.proofs.Values.{value_of-Read}
+use Rattle.moment_theory.specs.Free.{AsksLastIn}
+use Rattle.moment_theory.specs.Taken.{Gives}
+use Rattle.moment_theory.proofs.Alike.{same_but}
+use Rattle.moment_theory.proofs.Facts.{facts_of_use, class_of_use}
+use Rattle.moment_theory.proofs.FromRunnable.{facts_of}
+use Rattle.moment_theory.proofs.PartsRest.{same_without, is_way}
+use Rattle.moment_theory.proofs.Rows.{value_now, value_other, value_before, unclocked_at_first}
+use Rattle.moment_theory.proofs.Unknown.{site_same}
+use Rattle.side_theory.specs.Sides.{IsSideUse, IsAnswerOfKind, Counts, DoesAs}
+
+-- what is known of a use `name = side`
+pub record SideFacts (s : Setting) (entry : Use) (side : Expr) (class : ℕ) : Type 0 where
+  pub bare : bare_count entry.name side ≡ 0
+  pub last : AsksLastIn side entry.name → ⊥
+  pub clocked : class_of_name s entry.name ≡ Some class
+  pub sites : (c : Option ℕ) (y : ℕ) → SiteReads s c y → y ≢ entry.name
+
+no_count : (x : ℕ) (side : Expr) (clause : Option ℕ) → IsSolvableFor x (Valued (Read x) side clause) → (bare_count x side ≡ 0) × (AsksLastIn side x → ⊥)
+no_count x side clause solvable =
+    let total = solvable.0 in
+    let own : bare_count x (Read x) ≡ 1 = bare_count-Read x x ∙ ap one_if (eq-eqb x x refl) in
+    (omega (arith, total, own), λ asks. elim asks [ inl some ↦ omega (arith, total, own, some) | inr some ↦ omega (arith, total, own, some) ])
+
+pub side_facts : (s : Setting) (uses : List Use) → IsRunnable s → AreUses s uses → (entry : Use) (side : Expr) (class : ℕ) → Contains uses entry → IsSideUse s entry side class → SideFacts s entry side class
+side_facts s uses runs are entry side class used is =
+    let facts = facts_of s runs in
+    let use_is = facts_of_use s uses are entry used in
+    let same : Valued use_is.left use_is.right use_is.clause ≡ Valued (Read entry.name) side is.clause = same_Some (Valued use_is.left use_is.right use_is.clause) (Valued (Read entry.name) side is.clause) (sym use_is.found ∙ is.found) in
+    let none = no_count entry.name side is.clause (subst (IsSolvableFor entry.name) same use_is.solvable) in
+    let clocked : class_of_name s entry.name ≡ Some class = class_of_use s facts entry use_is ∙ is.class_is in
+    record {
+      bare = none.0;
+      last = none.1;
+      clocked = clocked;
+      sites = λ c y (site, factor, shift, condition, clock, found, some) is_own.
+          none-some class (sym ((facts.unclocked site condition found).names y some) ∙ ap (class_of_name s) is_own ∙ clocked);
+    }
+
+module _ (s : Setting) (uses : List Use) (runs : IsRunnable s) (entry : Use) (side : Expr) (class : ℕ) (is : IsSideUse s entry side class) (facts : SideFacts s entry side class) (S : Assignment) (m : ℕ) (row : Row) where
+  abbrev x : ℕ
+  x = entry.name
+
+  abbrev A : Assignment
+  A = with_row S m row
+
+  abbrev own : Equation
+  own = Valued (Read x) side is.clause
+
+  -- with any value of the name the side answers alike
+  side_same : class_ticks s A (class_of_equation s entry.equation) m ≡ true → (w : Value) → value_of side (views_at s A (class_of_equation s entry.equation) m) ≡ value_of side (views_at s (with_value A m x w) (class_of_equation s entry.equation) m)
+  side_same ticks w =
+      let W = with_value A m x w in
+      let before : SameBefore A W m = λ y k lt. sym (value_before A m x w y k lt) in
+      same_without x side _ _ (let count = asked_bare x side in let none = facts.bare in omega (arith, count, none))
+      (same_but s A W m before entry.equation x (λ at. unclocked_at_first s A (class_of_equation s entry.equation) (subst (λ k. class_ticks s A (class_of_equation s entry.equation) k ≡ true) at ticks)) side (record {
+        now = λ y other some. sym (value_other A m x w y other);
+        ticks = λ y asks. class_ticks_by_site s A W (class_of_name s y) m before (site_same s A W m (class_of_name s y) (facts_of s runs).unclocked (λ z reads. sym (value_other A m x w z (facts.sites (class_of_name s y) z reads))));
+        last = λ y asks t. sym (value_other A m x w y (λ same. facts.last (subst (AsksLastIn side) same asks)));
+        early = λ none d q some. absurd (none-some class (sym none ∙ is.class_is));
+      }))
+
+  own_value : (w : Value) → value_of (Read x) (views_at s (with_value A m x w) (class_of_equation s entry.equation) m) ≡ Is w
+  own_value w = value_of-Read x (views_at s (with_value A m x w) (class_of_equation s entry.equation) m)
+      ∙ ap read (subst (λ k. with_value A m x w x k ≡ Some w) (let h : m ≡ m - 0 = omega arith in h) (value_now A m x w))
+
+  -- beside the way to the name stands the side alone
+  not_reached : (b : Bool) → (way_to x side).reaches ≡ b → b ≡ false
+  not_reached true r = absurd (let some = (is_way x side).some r in let count = asked_bare x side in let none = facts.bare in omega (arith, some, count, none))
+  not_reached false r = refl
+
+  beside : (views : Views) → seen_by views (parts_beside x own) ≡ value_of side views ∷ []
+  beside views =
+      ap (λ way. seen_by views (beside_of way ++ beside_of (way_to x side))) (way_to-Read x x)
+      ∙ ap (λ b. seen_by views ((if b then [] else ((λ v. read ((v 0).now x)) ∷ [])) ++ beside_of (way_to x side))) (eq-eqb x x refl)
+      ∙ ap (λ b. seen_by views (if b then (way_to x side).beside else ((way_to x side).meaning ∷ []))) (not_reached (way_to x side).reaches refl)
+      ∙ ap (λ a. a ∷ []) ((is_way x side).means views)
+
+  same_Is : (a b : Value) → Is a ≡ Is b → a ≡ b
+  same_Is a b e = cc
+
+  is_fails : (v : Value) (kind : Fail) → Is v ≡ Fails kind → ⊥
+  is_fails v kind e = cc
+
+  module _ (counts : Counts s S m row entry side class) where
+    equation_same : counts.equation ≡ own
+    equation_same = same_Some counts.equation own (sym counts.can.equation_is ∙ is.found)
+
+    can : CanUse s A m entry own counts.name
+    can = subst (λ e. CanUse s A m entry e counts.name) equation_same counts.can
+
+    abbrev here : Views
+    here = views_at s A (class_of_equation s entry.equation) m
+
+    gives : (v : Value) → IsOfKind counts.name.kind v → value_of side here ≡ Is v → Gives s S m row entry v
+    gives v typed h = record {
+      equation = own;
+      name = counts.name;
+      can = can;
+      only = record {
+        typed = typed;
+        solves = (v, own_value v, sym (side_same can.ticks.1 v) ∙ h);
+        only = λ w typed (u, one, two).
+            let first : Is w ≡ Is u = sym (own_value w) ∙ one in
+            let second : Is u ≡ Is v = sym two ∙ sym (side_same can.ticks.1 w) ∙ h in
+            same_Is w v (first ∙ second);
+      };
+    }
+
+    fails : Contains uses entry → (kind : Fail) → value_of side here ≡ Fails kind → EquationFails s A uses m entry.equation kind
+    fails used kind h = record {
+      entry = entry;
+      used = used;
+      equation_is = refl;
+      equation = own;
+      name = counts.name;
+      counts = can;
+      unsolved = λ v typed (u, one, two). is_fails u kind (sym two ∙ sym (side_same can.ticks.1 v) ∙ h);
+      kind_is = sym (ap kind_of (beside here ∙ ap (λ a. a ∷ []) h));
+    }
+
+    does : Contains uses entry → (a : Answer) → value_of side here ≡ a → IsAnswerOfKind counts.name.kind a → DoesAs s uses S m row entry a
+    does used (Is v) h typed = gives v typed h
+    does used (Fails kind) h typed = fails used kind h
+    does used Absent h typed = typed
+
+pub does_as : (s : Setting) (uses : List Use) → IsRunnable s → AreUses s uses → (entry : Use) (side : Expr) (class : ℕ) → Contains uses entry → IsSideUse s entry side class
+    → (S : Assignment) (m : ℕ) (row : Row) → Counts s S m row entry side class → DoesAs s uses S m row entry (value_of side (views_at s (with_row S m row) (Some class) m))
+does_as s uses runs are entry side class used is S m row counts =
+    does s uses runs entry side class is (side_facts s uses runs are entry side class used is) S m row counts used _
+    (ap (λ c. value_of side (views_at s (with_row S m row) c m)) is.class_is) counts.typed

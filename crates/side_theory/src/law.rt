@@ -1,0 +1,29 @@
+ghost use Rattle.side_theory.specs.Counted.{CountedLaw, OnwardLaw};
+ghost use Rattle.side_theory.specs.Sides.{SideLaw};
+ghost use Rattle.side_theory.specs.Stretches.{StretchLaw};
+ghost use Rattle.side_theory.specs.Typed.{TypedLaw};
+
+/// A use of an equation `name = side` does over a row what its side answers there.
+pub fn side_law()
+    ensures { SideLaw }
+{}
+
+/// Equations evaluated one after the other, each over the views with the values before it, take their uses.
+pub fn stretch_law()
+    ensures { StretchLaw }
+{}
+
+/// The side of a use that counts has a value of its name's type, or fails.
+pub fn typed_law()
+    ensures { TypedLaw }
+{}
+
+/// In a free order the uses of a stretch count, each where those before it have values.
+pub fn counted_law()
+    ensures { CountedLaw }
+{}
+
+/// A stretch whose lines all have values leaves a row from which the next one of the base partition begins.
+pub fn onward_law()
+    ensures { OnwardLaw }
+{}
