@@ -1,5 +1,5 @@
 -- The text of an expression, with round brackets around every operator. This project's own, in the words of Modelica.
-use Rattle.std.specs.Prelude.{ℕ, zero, suc, List, [], ◌∷◌, ◌++◌, Option, Some, None, codes, decimal, slice_get}
+use Rattle.std.specs.Prelude.{ℕ, List, [], ◌∷◌, ◌++◌, Option, Some, None, codes, decimal, slice_get}
 use Rattle.sync_values.specs.declared.value.Rel.{Rel}
 use Rattle.sync_values.specs.declared.value.Rel.TheVariants.{Less, LessEq, Greater, GreaterEq, Equal, Unequal}
 use Rattle.sync_values.specs.declared.value.ChainOp.{ChainOp}
@@ -123,8 +123,3 @@ expr_text names = fold-Expr (List ℕ) (List ℕ) (clock_level names) (expr_leve
 
 unfoldable pub clock_text : List FlatName → ClockExpr → List ℕ
 clock_text names = fold-ClockExpr (List ℕ) (List ℕ) (clock_level names) (expr_level names)
-
--- the brackets that a chain of so many operators begins with
-abbrev pub openings : ℕ → List ℕ
-openings zero = []
-openings (suc n) = codes "(" ++ openings n

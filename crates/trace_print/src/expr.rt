@@ -1,6 +1,7 @@
 //! The texts of expressions, and of expressions for clocks.
 ghost use Rattle.std.specs.Prelude.{◌≡◌, ◌++◌, ◌∷◌, [], OnOk, codes, map, min};
-ghost use Rattle.trace_print.specs.Printed.{expr_text, clock_text, chain_text, choices, separated, openings};
+ghost use Rattle.trace_print.specs.Openings.{openings};
+ghost use Rattle.trace_print.specs.Printed.{expr_text, clock_text, chain_text, choices, separated};
 
 use crate::put::{
     put, put_conversion, put_interval, put_name, put_operator, put_rational, put_value,

@@ -1,8 +1,8 @@
-use Rattle.std.proofs.Common.{rules, Some, None, ◌≡◌, ap, ap₂, sym, subst, ◌∙◌, ◌++◌, ◌∷◌, [], OnOk, codes, map, min, length, append_assoc, append-nil, arith}
+use Rattle.std.proofs.Common.{rules, Some, ◌≡◌, ap, sym, subst, ◌∙◌, ◌++◌, ◌∷◌, OnOk, codes, map, append_assoc}
 use Rattle.flat_model.specs.declared.expression.Expr.TheVariants.{Sample}
-use Rattle.trace_print.specs.Printed.{expr_text, clock_text, rel_text, fun_text, separated}
+use Rattle.trace_print.specs.Printed.{expr_text, rel_text, fun_text, separated}
 use Rattle.trace_print.proofs.Joins.{chain_begins, chain_ends, list_begins, behind_three, choices_begin, sample_on}
-use Rattle.trace_print.proofs.Texts.{text-Relation, text-Apply, text-Sample}
+use Rattle.trace_print.proofs.Texts.{text-Relation, text-Apply}
 use Rattle.trace_print.proofs.expr.+text.Goals as goal
 
 pub put_chain-loop-i-init : goal.put_chain-loop-i-init
