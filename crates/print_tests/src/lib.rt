@@ -6,4 +6,6 @@ mod err_lines;
 #[cfg(test)]
 mod models;
 #[cfg(test)]
+mod texts;
+#[cfg(test)]
 mod trace_lines;

@@ -6,7 +6,7 @@ use Rattle.std.proofs.lemmas.List.Elements.{All-get_or}
 use Rattle.flat_model.specs.Models.{IsName}
 use Rattle.sync_values.specs.declared.value.Value.{Value}
 use Rattle.flat_model.specs.declared.model.FlatName.{FlatName}
-use Rattle.flat_model.specs.Trace.{header_text, is_column, columns_from, columns_of, column_texts, cells_text, cell_text}
+use Rattle.flat_model.specs.Trace.{header_text, is_column, columns_from, column_texts, cells_text, cell_text}
 
 -- what is left of a list at one of its items
 pub left_at : {A : Type 0} (xs : List A) (k : ℕ) (x : A) → k < length xs → x ≡ get_or xs k x → drop k xs ≡ x ∷ drop (k + 1) xs

@@ -1,7 +1,5 @@
 -- What contracts see of a line of the trace: its columns, and the bytes for which it has room.
-use Rattle.std.specs.Prelude.{◌≡◌, ℕ, ◌+◌, ◌*◌, ◌≤◌, ⊤}
-use Rattle.std.specs.Borrow.{follows_so, MutBor, Fml}
-use mathlib.Core.Option.{none}
+use Rattle.std.specs.Prelude.{ℕ, ◌+◌, ◌*◌}
 
 pub record Room : Type 0 where
   pub columns : ℕ

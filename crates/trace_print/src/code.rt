@@ -39,7 +39,7 @@ pub enum Code {
     N8,
     /// A component or a member of a connector has a type that the profile does not have there.
     N9,
-    /// The model has more names, equations, calls or tokens than their limit.
+    /// The model has more names, equations or tokens than their limit.
     N10,
     /// A component stands too deep in others.
     N11,
@@ -67,7 +67,7 @@ pub enum Code {
     C6,
     /// A base partition has an event clock and another constructor.
     C7,
-    /// An event clock is shifted in a way that is not defined.
+    /// The shift of an event clock is below 0 or not whole.
     C8,
     /// The factor of an event clock is not whole.
     C9,
@@ -99,57 +99,59 @@ pub enum Code {
     P1,
 }
 
-/// The code as it is printed.
-pub(crate) fn text_of(code: Code) -> &'static [u8]
-    ensures text { result.now ≡ code_text code }
-    ensures short { length result.now ≤ 3 }
-{
-    match code {
-        Code::L0 => b"L0",
-        Code::L1 => b"L1",
-        Code::L2 => b"L2",
-        Code::L3 => b"L3",
-        Code::L4 => b"L4",
-        Code::S1 => b"S1",
-        Code::S2 => b"S2",
-        Code::S3 => b"S3",
-        Code::N1 => b"N1",
-        Code::N2 => b"N2",
-        Code::N3 => b"N3",
-        Code::N4 => b"N4",
-        Code::N5 => b"N5",
-        Code::N6 => b"N6",
-        Code::N7 => b"N7",
-        Code::N8 => b"N8",
-        Code::N9 => b"N9",
-        Code::N10 => b"N10",
-        Code::N11 => b"N11",
-        Code::Y1 => b"Y1",
-        Code::Y2 => b"Y2",
-        Code::Y3 => b"Y3",
-        Code::Y4 => b"Y4",
-        Code::Y5 => b"Y5",
-        Code::C1 => b"C1",
-        Code::C2 => b"C2",
-        Code::C3 => b"C3",
-        Code::C4 => b"C4",
-        Code::C5 => b"C5",
-        Code::C6 => b"C6",
-        Code::C7 => b"C7",
-        Code::C8 => b"C8",
-        Code::C9 => b"C9",
-        Code::C10 => b"C10",
-        Code::Q1 => b"Q1",
-        Code::Q2 => b"Q2",
-        Code::Q3 => b"Q3",
-        Code::Q4 => b"Q4",
-        Code::I1 => b"I1",
-        Code::I2 => b"I2",
-        Code::I3 => b"I3",
-        Code::I4 => b"I4",
-        Code::I5 => b"I5",
-        Code::I6 => b"I6",
-        Code::I7 => b"I7",
-        Code::P1 => b"P1",
+impl Code {
+    /// The code as it is printed: its own name.
+    pub fn text(self) -> &'static [u8]
+        ensures text { result.now ≡ code_text self }
+        ensures short { length result.now ≤ 3 }
+    {
+        match self {
+            Code::L0 => b"L0",
+            Code::L1 => b"L1",
+            Code::L2 => b"L2",
+            Code::L3 => b"L3",
+            Code::L4 => b"L4",
+            Code::S1 => b"S1",
+            Code::S2 => b"S2",
+            Code::S3 => b"S3",
+            Code::N1 => b"N1",
+            Code::N2 => b"N2",
+            Code::N3 => b"N3",
+            Code::N4 => b"N4",
+            Code::N5 => b"N5",
+            Code::N6 => b"N6",
+            Code::N7 => b"N7",
+            Code::N8 => b"N8",
+            Code::N9 => b"N9",
+            Code::N10 => b"N10",
+            Code::N11 => b"N11",
+            Code::Y1 => b"Y1",
+            Code::Y2 => b"Y2",
+            Code::Y3 => b"Y3",
+            Code::Y4 => b"Y4",
+            Code::Y5 => b"Y5",
+            Code::C1 => b"C1",
+            Code::C2 => b"C2",
+            Code::C3 => b"C3",
+            Code::C4 => b"C4",
+            Code::C5 => b"C5",
+            Code::C6 => b"C6",
+            Code::C7 => b"C7",
+            Code::C8 => b"C8",
+            Code::C9 => b"C9",
+            Code::C10 => b"C10",
+            Code::Q1 => b"Q1",
+            Code::Q2 => b"Q2",
+            Code::Q3 => b"Q3",
+            Code::Q4 => b"Q4",
+            Code::I1 => b"I1",
+            Code::I2 => b"I2",
+            Code::I3 => b"I3",
+            Code::I4 => b"I4",
+            Code::I5 => b"I5",
+            Code::I6 => b"I6",
+            Code::I7 => b"I7",
+            Code::P1 => b"P1",
+        }
     }
 }

@@ -4,7 +4,7 @@ ghost use Rattle.flat_model.specs.Runs.{fault_line, kind_text, moment_text};
 ghost use Rattle.flat_model.specs.Runs as runs;
 ghost use Rattle.trace_print.specs.Refusals.{place_text, refusal_line, IsShort};
 
-use crate::code::{Code, text_of};
+use crate::code::Code;
 use flat_model::{Fault, FaultPlace, Moment, Place};
 use itoa::Buffer;
 use rational_time::Ratio;
@@ -34,7 +34,7 @@ pub fn refusal(code: Code, place: &Place) -> ErrLine
 {
     let mut line = ErrLine::new();
     line.add(b"refused ");
-    line.add(text_of(code));
+    line.add(code.text());
     line.add(b" at ");
     line.add_place(place);
     line.add(b"\n");

@@ -6,11 +6,18 @@
 
 mod code;
 mod err_line;
+mod expr;
 mod line;
+mod model_text;
 mod no_memory;
 mod piece;
+mod put;
+mod ticks;
+mod words;
 
 pub use code::Code;
 pub use err_line::{ErrLine, fault, refusal};
 pub use line::{Line, reserve};
+pub use model_text::flat_text;
 pub use no_memory::NoMemory;
+pub use ticks::clocks_text;

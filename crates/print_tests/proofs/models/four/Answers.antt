@@ -1,4 +1,4 @@
-use Rattle.std.proofs.Common.{◌≡◌, ap, ap₂, ◌∙◌, [], ◌∷◌, ◌++◌, rules}
+use Rattle.std.proofs.Common.{◌≡◌, ap, ◌∙◌, [], ◌∷◌, ◌++◌, rules}
 use Rattle.flat_model.specs.Trace.{is_column}
 use Rattle.print_tests.proofs.FourNames.{are_four}
 use Rattle.print_tests.proofs.models.four.Goals as goal
