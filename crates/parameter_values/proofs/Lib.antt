@@ -1,0 +1,9 @@
+pub mod Answers
+pub mod Derivations
+pub mod Dots
+pub mod GivenValues
+pub mod Larger
+pub mod OutcomeMeaning
+pub mod OutcomeNodes
+pub mod OutcomeParts
+pub mod Slots

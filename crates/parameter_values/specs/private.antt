@@ -1,0 +1,3 @@
+pub mod Givens
+pub mod Outcomes
+pub mod Slots

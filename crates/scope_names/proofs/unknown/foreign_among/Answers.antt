@@ -1,0 +1,12 @@
+use Rattle.std.proofs.Common.{◌∙◌, ap, map, arith}
+use Rattle.class_scopes.specs.Places.{least, unless}
+use Rattle.class_scopes.specs.Spelled.{place_of, is_time, spelled}
+use Rattle.scope_names.specs.N3.{foreign_name}
+use Rattle.scope_names.proofs.Lent.{least_lent}
+use Rattle.scope_names.proofs.unknown.foreign_among.Goals as goal
+
+pub loop-path-preserved : goal.loop-path-preserved
+loop-path-preserved c =
+    least_lent (foreign_name c.args.text.now) c.args.paths.now c.loop-path.path-index c.path-item.result
+    (omega arith) c.path-item.is c.loop-path.least c.lesser-least.result c.unless.result c.loop-path.invariant c.lesser-least.ensures
+    (c.unless.ensures ∙ ap (λ known. least (unless known (place_of c.path-item.result.now))) (c.is_time-known.ensures ∙ ap (λ ps. is_time (map (spelled c.args.text.now) ps)) c.as_slice.ensures))
