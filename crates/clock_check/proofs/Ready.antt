@@ -48,20 +48,20 @@ name_below classes n x name e = by name.input
     by false = number_below classes n (class_in classes x) e
 
 -- each equation has its node
-own_at : {A : Type 0} (xs : List A) (a : A) (ys : List A) → slice_get (xs ++ a ∷ ys) (length xs) ≡ Some a
+pub own_at : {A : Type 0} (xs : List A) (a : A) (ys : List A) → slice_get (xs ++ a ∷ ys) (length xs) ≡ Some a
 own_at [] a ys = refl
 own_at (x ∷ xs) a ys = own_at xs a ys
 
-get_left : {A : Type 0} (xs ys : List A) (j : ℕ) (a : A) → slice_get xs j ≡ Some a → slice_get (xs ++ ys) j ≡ Some a
+pub get_left : {A : Type 0} (xs ys : List A) (j : ℕ) (a : A) → slice_get xs j ≡ Some a → slice_get (xs ++ ys) j ≡ Some a
 get_left [] ys j a e = absurd cc
 get_left (x ∷ xs) ys zero a e = e
 get_left (x ∷ xs) ys (suc j) a e = get_left xs ys j a e
 
-get_right : {A : Type 0} (xs ys : List A) (j : ℕ) → slice_get (xs ++ ys) (length xs + j) ≡ slice_get ys j
+pub get_right : {A : Type 0} (xs ys : List A) (j : ℕ) → slice_get (xs ++ ys) (length xs + j) ≡ slice_get ys j
 get_right [] ys j = ap (λ n. slice_get ys n) (let e : 0 + j ≡ j = omega arith in e)
 get_right (x ∷ xs) ys j = ap (λ n. slice_get (x ∷ (xs ++ ys)) n) (let e : suc (length xs) + j ≡ suc (length xs + j) = omega arith in e) ∙ get_right xs ys j
 
-node_for : (clauses : List ClockExpr) (before equations : List Equation) (k : ℕ) → k < length equations
+pub node_for : (clauses : List ClockExpr) (before equations : List Equation) (k : ℕ) → k < length equations
     → (j : ℕ) × (node : Node) × (slice_get (nodes_from clauses before equations) j ≡ Some node) × (node.equation ≡ length before + k) × (node.cause ≡ None)
 node_for clauses before [] k lt = absurd (omega (arith, lt))
 node_for clauses before (equation ∷ rest) zero lt =
