@@ -1,2 +1,3 @@
 pub mod Classified
 pub mod working
+pub mod Laws

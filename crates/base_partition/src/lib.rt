@@ -5,6 +5,7 @@ mod first;
 mod group;
 mod joining;
 mod kinds;
+mod law;
 mod marking;
 mod member;
 mod numbering;
@@ -13,4 +14,5 @@ mod placing;
 mod source;
 
 pub use kinds::ClassEnd;
+pub use law::{answer_once_law, classes_once_law};
 pub use partition::classes;

@@ -1,16 +1,16 @@
 -- The answers, rule by rule.
-use Rattle.std.proofs.Common.{◌≡◌, ◌∙◌, refl, sym, ap, subst, ℕ, ◌+◌, ◌<◌, ◌⊎◌, Bool, List, Option, Some, None, Ok, Err, All, length}
+use Rattle.std.proofs.Common.{◌≡◌, subst, ℕ, List, Option, Err, length}
 use Rattle.flat_model.specs.declared.model.FlatModel.{FlatModel}
 use Rattle.clock_terms.specs.declared.data.Terms.{Terms}
 use Rattle.clock_terms.specs.declared.data.Classes.{Classes}
 use Rattle.clock_terms.specs.declared.data.Grid.{Grid}
 use Rattle.clock_terms.specs.declared.data.NodeOf.{NodeOf}
 use Rattle.clock_terms.specs.Said.{AreTermsOf}
-use Rattle.clock_spread.specs.Least.{IsLeast, IsLeastOf}
+use Rattle.clock_spread.specs.Least.{IsLeastOf}
 use Rattle.clock_spread.proofs.Leasts.{least_same}
 use Rattle.clock_check.specs.declared.kinds.CheckEnd.{CheckEnd}
 use Rattle.clock_check.specs.declared.kinds.CheckEnd.TheVariants.{Factor, EarlyStart, NotOnEvent, EventFactor, HoldInCondition, NoMemory}
-use Rattle.clock_check.specs.Checking.{Checks, BreaksRule, AreFactorsWhole, HoldsInCondition, IsNowhere}
+use Rattle.clock_check.specs.Checking.{Checks, BreaksRule, HoldsInCondition}
 use Rattle.clock_check.specs.Holding.{IsHoldingAt}
 use Rattle.clock_check.proofs.Conditions.{holding_to, holding_from}
 

@@ -1,5 +1,5 @@
 -- Event conditions in whose class a `hold` stands.
-use Rattle.std.proofs.Common.{◌≡◌, ◌∙◌, refl, sym, ap, subst, ℕ, ◌+◌, ◌<◌, ◌≤◌, inr, List, length, map, get_or, Option, Some, None, option_map, slice_get, All, Contains, arith}
+use Rattle.std.proofs.Common.{◌≡◌, ◌∙◌, refl, sym, ap, ℕ, ◌+◌, inr, length, get_or, Option, Some, None, option_map, slice_get, All, arith}
 use Rattle.std.proofs.lemmas.Option.{slice_get-map, slice_get_within}
 use Rattle.std.proofs.lemmas.List.{length-map}
 use Rattle.std.proofs.lemmas.List.Elements.{Contains-get_or}
@@ -9,9 +9,9 @@ use Rattle.clock_terms.specs.declared.data.Classes.{Classes}
 use Rattle.clock_terms.specs.declared.data.NodeOf.{NodeOf}
 use Rattle.clock_terms.specs.Classing.{AreClassesOf, class_in}
 use Rattle.clock_terms.specs.Nodes.{Node, entry, nodes_of}
-use Rattle.clock_terms.specs.Said.{AreTermsOf, IsNode, numbered, IsHolding}
+use Rattle.clock_terms.specs.Said.{AreTermsOf, IsNode, IsHolding}
 use Rattle.clock_check.specs.Checking.{HoldsInCondition}
-use Rattle.clock_check.specs.Holding.{HasHold, IsInClass, IsHoldingNode, IsHoldingAt}
+use Rattle.clock_check.specs.Holding.{IsInClass, IsHoldingAt}
 
 none_some : {A : Type 0} {a : A} → None ≡ Some a → ⊥
 none_some e = absurd cc

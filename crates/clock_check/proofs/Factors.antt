@@ -1,15 +1,14 @@
 -- Inferred factors.
-use Rattle.std.proofs.Common.{◌≡◌, ◌∙◌, refl, sym, ap, subst, ℕ, zero, suc, ◌+◌, ◌*◌, ◌/◌, ◌%◌, ◌<◌, ◌≤◌, ◌↔◌, ◌⊎◌, inl, inr, arith, mul-pos, IsTrue, nat_eq}
-use Rattle.std.proofs.Math.Nat.{mul-mod_right, mul-mod_left}
+use Rattle.std.proofs.Common.{◌≡◌, refl, subst, ℕ, zero, suc, ◌*◌, ◌/◌, ◌%◌, ◌<◌, ◌↔◌, ◌⊎◌, inl, inr, arith, IsTrue, nat_eq}
+use Rattle.std.proofs.Math.Nat.{mul-mod_left}
 use Rattle.std.proofs.lemmas.Bool.{eqb-true, eq-eqb}
 use Rattle.clock_terms.specs.declared.data.Grid.{Grid}
 use Rattle.clock_terms.proofs.Progressions.{same_sym, same_trans}
 use Rattle.clock_spread.proofs.Limits.{grid_proper}
 use Rattle.flat_model.specs.declared.clock.Conversion.TheVariants.{Sub, Super}
 use Rattle.rational_time.specs.declared.ratio.Ratio.{Ratio}
-use Rattle.clock_terms.specs.Position.{Position, IsAt, at_ratio, part, Progression, IsProper, AreSame, progression_of_grid}
+use Rattle.clock_terms.specs.Position.{IsAt, at_ratio, part, Progression, IsProper, AreSame, progression_of_grid}
 use Rattle.clock_terms.specs.Asked.{Asks, EachOf, SplitBy, converted}
-use Rattle.clock_terms.proofs.Fractions.{at_sym, part_forth, part_back, part_at, at_trans}
 use Rattle.clock_terms.proofs.Conversions.{asks_converted, converted_asks, converted_same, converted_proper, there_and_back}
 
 pub divided : (num den : ℕ) → 0 < den → num % den ≡ 0 → num ≡ (num / den) * den

@@ -1,13 +1,11 @@
 -- Relations with a factor that is to be inferred, over the grids of classes.
-use Rattle.std.proofs.Common.{◌≡◌, ◌∙◌, refl, sym, ap, subst, ℕ, ◌↔◌, Bool, true, false, not, List, [], Option, Some, None, option_map}
+use Rattle.std.proofs.Common.{◌≡◌, ◌∙◌, refl, sym, ap, subst, ℕ, ◌↔◌, Bool, true, false, not, List, Some, None, option_map}
 use Rattle.clock_terms.specs.declared.data.Grid.{Grid}
 use Rattle.clock_terms.specs.declared.data.Relation.{Relation}
-use Rattle.clock_terms.specs.Position.{Progression, progression_of_grid}
+use Rattle.clock_terms.specs.Position.{progression_of_grid}
 use Rattle.clock_terms.specs.Asked.{Asks}
-use Rattle.clock_terms.specs.Clocking.{RelationHolds}
 use Rattle.clock_spread.specs.Found.{class_in}
-use Rattle.clock_spread.specs.Turn.{said_by}
-use Rattle.clock_check.specs.Inferring.{IsInferred, held_at, FailsInferred}
+use Rattle.clock_check.specs.Inferring.{IsInferred, FailsInferred}
 use Rattle.clock_check.specs.Numbering.{grid_at}
 
 some_same : {A : Type 0} {a b : A} → Some a ≡ Some b → a ≡ b

@@ -1,21 +1,17 @@
 -- The parts of a clocking are those of the model.
-use Rattle.std.proofs.Common.{◌≡◌, ◌≢◌, ◌∙◌, refl, sym, ap, subst, ℕ, zero, suc, ◌+◌, ◌-◌, ◌<◌, ◌≤◌, ◌⊎◌, inl, inr, ⊎_elim, Bool, true, false, if◌then◌else◌, List, [], ◌∷◌, ◌++◌, length, map, take, drop, get_or, slice_index_or, slice_get, Option, Some, None, All, arith}
-use Rattle.std.proofs.lemmas.List.{append-nil, append_assoc, length-append}
-use Rattle.std.proofs.lemmas.List.Elements.{All-head, All-tail}
+use Rattle.std.proofs.Common.{◌≡◌, ◌∙◌, refl, sym, ap, ℕ, zero, suc, ◌+◌, ◌<◌, ◌⊎◌, inl, inr, ⊎_elim, List, [], ◌∷◌, ◌++◌, length, map, slice_index_or, slice_get, Option, Some, None, All, arith}
+use Rattle.std.proofs.lemmas.List.{append_assoc, length-append}
 use Rattle.flat_model.specs.declared.clock.ClockExpr.{ClockExpr}
 use Rattle.flat_model.specs.declared.equation.Equation.{Equation}
 use Rattle.flat_model.specs.declared.expression.Expr.{Expr}
-use Rattle.flat_model.specs.declared.model.FlatModel.{FlatModel}
 use Rattle.flat_model.specs.Models.{clause_of}
-use Rattle.clock_terms.specs.declared.data.Cause.{Cause}
 use Rattle.clock_terms.specs.declared.data.Constructor.{Constructor}
-use Rattle.clock_terms.specs.declared.data.NodeOf.{NodeOf}
 use Rattle.clock_terms.specs.Mentions.{Cut, clock_cuts}
-use Rattle.clock_terms.specs.Nodes.{Node, entry, cut_node, cut_nodes, own_node, side_cuts, leading_clock, nodes_of_equation, nodes_from, nodes_of}
+use Rattle.clock_terms.specs.Nodes.{Node, entry, cut_nodes, own_node, side_cuts, leading_clock, nodes_of_equation, nodes_from}
 use Rattle.clock_terms.specs.Position.{Progression}
 use Rattle.clock_terms.specs.Source.{Kind, Inferred, Every, AtSite, Other, kind_of, Source, every, at_site, source_before, sources_from}
 use Rattle.clock_check.specs.ClockingOf.{sites_before, AreSites}
-use Rattle.clock_check.specs.Making.{own_by, own_number, node_numbers}
+use Rattle.clock_check.specs.Making.{own_by, node_numbers}
 
 none_some : {A : Type 0} {a : A} → None ≡ Some a → ⊥
 none_some e = absurd cc

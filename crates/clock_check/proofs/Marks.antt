@@ -1,15 +1,15 @@
 -- Classes with a `hold`, and event conditions in them.
-use Rattle.std.proofs.Common.{◌≡◌, ◌∙◌, refl, sym, ap, subst, ℕ, zero, suc, ◌+◌, ◌<◌, ◌≤◌, ◌↔◌, ◌⊎◌, inl, inr, ⊎_elim, ◌==◌, Bool, true, false, if◌then◌else◌, List, [], ◌∷◌, ◌++◌, length, take, get_or, slice_get, slice_index_or, Option, Some, None, Contains, arith}
+use Rattle.std.proofs.Common.{◌≡◌, ◌∙◌, refl, sym, ap, subst, ℕ, zero, suc, ◌+◌, ◌<◌, ◌↔◌, ◌⊎◌, inl, inr, ⊎_elim, ◌==◌, Bool, true, false, if◌then◌else◌, List, [], ◌∷◌, length, take, get_or, slice_get, slice_index_or, Option, Some, None, Contains, arith}
 use Rattle.std.proofs.lemmas.Bool.{eqb-true, eq-eqb}
-use Rattle.std.proofs.lemmas.List.{take_more, take_all}
+use Rattle.std.proofs.lemmas.List.{take_more}
 use Rattle.std.proofs.lemmas.List.Elements.{Contains-push, Contains-push_cases, Contains-append_left}
-use Rattle.std.proofs.lemmas.Option.{slice_get_within, slice_get-get_or}
+use Rattle.std.proofs.lemmas.Option.{slice_get-get_or}
 use Rattle.clock_terms.specs.declared.data.Cause.TheVariants.{Condition}
 use Rattle.clock_terms.specs.declared.data.NodeOf.{NodeOf}
 use Rattle.clock_spread.specs.Found.{class_in}
 use Rattle.clock_spread.specs.Least.{IsLeastOf, lesser_of}
 use Rattle.clock_spread.proofs.Leasts.{least_same, lesser_least}
-use Rattle.clock_check.specs.Holding.{HasHold, IsHoldingNode, IsHoldingAt}
+use Rattle.clock_check.specs.Holding.{HasHold, IsHoldingAt}
 
 true_false : {b : Bool} → b ≡ true → b ≡ false → ⊥
 true_false e f = absurd cc

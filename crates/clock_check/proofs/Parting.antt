@@ -1,5 +1,5 @@
 -- The parts of a clocking, over the lists of the model.
-use Rattle.std.proofs.Common.{◌≡◌, ◌∙◌, sym, ap, subst, ℕ, Bool, true, false, List, Option, Some, length, take, slice_get, slice_index_or}
+use Rattle.std.proofs.Common.{◌≡◌, ◌∙◌, ap, subst, ℕ, Bool, true, false, List, Option, Some, length, take, slice_get, slice_index_or}
 use Rattle.std.specs.List.{count_by}
 use Rattle.flat_model.specs.declared.model.FlatName.{FlatName}
 use Rattle.clock_terms.specs.declared.data.NodeOf.{NodeOf}

@@ -1,10 +1,9 @@
 -- A clocking gives a run its classes and clocks.
-use Rattle.std.proofs.Common.{◌≡◌, ◌∙◌, refl, sym, ap, subst, ℕ, zero, suc, ◌+◌, ◌<◌, ◌≤◌, ◌⊎◌, inl, inr, ⊎_elim, Bool, true, false, if◌then◌else◌, List, [], ◌∷◌, ◌++◌, length, take, get_or, slice_index_or, slice_get, Option, Some, None, All, Contains, arith}
-use Rattle.std.specs.List.{count_by}
+use Rattle.std.proofs.Common.{◌≡◌, ◌∙◌, refl, sym, ap, subst, ℕ, zero, suc, ◌+◌, ◌<◌, Bool, true, false, if◌then◌else◌, List, [], ◌∷◌, ◌++◌, length, take, get_or, slice_index_or, slice_get, Option, Some, None, arith}
 use Rattle.std.proofs.lemmas.List.{length-append}
 use Rattle.sync_values.specs.declared.value.Value.TheVariants as value
 use Rattle.flat_model.specs.declared.model.NameKind.TheVariants as kind
-use Rattle.std.proofs.lemmas.Option.{slice_get_within, slice_get-get_or, get_or_from_slice_get}
+use Rattle.std.proofs.lemmas.Option.{slice_get-get_or, get_or_from_slice_get}
 use Rattle.rational_time.specs.declared.ratio.Ratio.{Ratio}
 use Rattle.flat_model.specs.declared.clock.Clocking.{Clocking}
 use Rattle.flat_model.specs.declared.equation.Equation.{Equation}
@@ -12,16 +11,15 @@ use Rattle.flat_model.specs.declared.model.FlatModel.{FlatModel}
 use Rattle.flat_model.specs.declared.model.FlatName.{FlatName}
 use Rattle.flat_model.specs.declared.table.Table.{Table}
 use Rattle.flat_model.specs.declared.clock.ClockExpr.{ClockExpr}
-use Rattle.flat_model.specs.Runnable.{AreClasses, AreClocks, IsClassBelow, IsUnclocked}
+use Rattle.flat_model.specs.Runnable.{IsClassBelow}
 use Rattle.flat_model.specs.Setting.{flattened}
-use Rattle.flat_model.specs.Tables.{IsInput}
 use Rattle.flat_model.specs.Models.{clause_of}
 use Rattle.clock_terms.specs.declared.data.Terms.{Terms}
 use Rattle.clock_terms.specs.declared.data.Classes.{Classes}
 use Rattle.clock_terms.specs.Classing.{AreClassesOf, class_in, is_clocked}
 use Rattle.clock_terms.specs.Mentions.{clock_cuts}
-use Rattle.clock_terms.specs.Nodes.{Node, cut_nodes, own_node, side_cuts, leading_clock, nodes_of_equation, nodes_from, nodes_of}
-use Rattle.clock_terms.specs.Said.{AreTermsOf, IsNode, numbered}
+use Rattle.clock_terms.specs.Nodes.{Node, cut_nodes, own_node, side_cuts, leading_clock, nodes_of_equation, nodes_from}
+use Rattle.clock_terms.specs.Said.{AreTermsOf, numbered}
 use Rattle.sub_clock_solve.specs.Solving.{place_of}
 use Rattle.sub_clock_solve.proofs.Gathers.{count, count_true, count_false}
 use Rattle.clock_check.specs.ClockingOf.{number_in, class_of_name, IsClockingOf}
@@ -50,20 +48,20 @@ name_below classes n x name e = by name.input
     by false = number_below classes n (class_in classes x) e
 
 -- each equation has its node
-own_at : {A : Type 0} (xs : List A) (a : A) (ys : List A) → slice_get (xs ++ a ∷ ys) (length xs) ≡ Some a
+pub own_at : {A : Type 0} (xs : List A) (a : A) (ys : List A) → slice_get (xs ++ a ∷ ys) (length xs) ≡ Some a
 own_at [] a ys = refl
 own_at (x ∷ xs) a ys = own_at xs a ys
 
-get_left : {A : Type 0} (xs ys : List A) (j : ℕ) (a : A) → slice_get xs j ≡ Some a → slice_get (xs ++ ys) j ≡ Some a
+pub get_left : {A : Type 0} (xs ys : List A) (j : ℕ) (a : A) → slice_get xs j ≡ Some a → slice_get (xs ++ ys) j ≡ Some a
 get_left [] ys j a e = absurd cc
 get_left (x ∷ xs) ys zero a e = e
 get_left (x ∷ xs) ys (suc j) a e = get_left xs ys j a e
 
-get_right : {A : Type 0} (xs ys : List A) (j : ℕ) → slice_get (xs ++ ys) (length xs + j) ≡ slice_get ys j
+pub get_right : {A : Type 0} (xs ys : List A) (j : ℕ) → slice_get (xs ++ ys) (length xs + j) ≡ slice_get ys j
 get_right [] ys j = ap (λ n. slice_get ys n) (let e : 0 + j ≡ j = omega arith in e)
 get_right (x ∷ xs) ys j = ap (λ n. slice_get (x ∷ (xs ++ ys)) n) (let e : suc (length xs) + j ≡ suc (length xs + j) = omega arith in e) ∙ get_right xs ys j
 
-node_for : (clauses : List ClockExpr) (before equations : List Equation) (k : ℕ) → k < length equations
+pub node_for : (clauses : List ClockExpr) (before equations : List Equation) (k : ℕ) → k < length equations
     → (j : ℕ) × (node : Node) × (slice_get (nodes_from clauses before equations) j ≡ Some node) × (node.equation ≡ length before + k) × (node.cause ≡ None)
 node_for clauses before [] k lt = absurd (omega (arith, lt))
 node_for clauses before (equation ∷ rest) zero lt =

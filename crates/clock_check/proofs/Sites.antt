@@ -1,8 +1,6 @@
 -- Conditions of event constructors, constructor by constructor.
-use Rattle.std.proofs.Common.{◌≡◌, ◌∙◌, refl, sym, ap, subst, ℕ, ◌+◌, ◌<◌, ◌≤◌, List, [], ◌∷◌, ◌++◌, length, get_or, drop, arith}
+use Rattle.std.proofs.Common.{◌≡◌, ◌∙◌, refl, sym, ap, subst, ℕ, ◌+◌, ◌<◌, ◌≤◌, List, [], ◌∷◌, ◌++◌, length, get_or, drop}
 use Rattle.std.proofs.lemmas.List.{append-nil, append_assoc, drop_more, drop_all}
-use Rattle.flat_model.specs.declared.clock.ClockExpr.{ClockExpr}
-use Rattle.flat_model.specs.declared.clock.ClockExpr.TheVariants as clock
 use Rattle.flat_model.specs.declared.expression.Expr.{Expr}
 use Rattle.clock_terms.specs.declared.data.Constructor.{Constructor}
 use Rattle.clock_terms.specs.Source.{Kind, Inferred, Every, AtSite, Other, kind_of}

@@ -1,11 +1,10 @@
 -- What is not refused holds, of clocks.
-use Rattle.std.proofs.Common.{◌≡◌, ◌≢◌, ◌∙◌, refl, sym, ap, subst, ℕ, zero, suc, ◌+◌, ◌*◌, ◌%◌, ◌<◌, ◌≤◌, ◌⊎◌, inl, inr, ⊎_elim, Bool, true, false, Option, Some, None, option_map, arith, mul-pos}
-use Rattle.rational_time.specs.declared.ratio.Ratio.{Ratio}
+use Rattle.std.proofs.Common.{◌≡◌, ◌∙◌, refl, sym, ap, subst, ℕ, zero, suc, ◌*◌, ◌%◌, ◌<◌, ◌≤◌, ◌⊎◌, inl, inr, ⊎_elim, Option, Some, None, option_map, arith, mul-pos}
 use Rattle.flat_model.specs.declared.clock.Conversion.{Conversion}
 use Rattle.flat_model.specs.declared.clock.Conversion.TheVariants.{Sub, Super, Shift, Back, NoClock}
 use Rattle.clock_terms.specs.declared.data.Grid.{Grid}
 use Rattle.clock_terms.specs.declared.data.Relation.{Relation}
-use Rattle.clock_terms.specs.Position.{Position, IsAt, at_ratio, part, Progression, IsProper, AreSame, TickTogether, progression_of_grid}
+use Rattle.clock_terms.specs.Position.{Progression, IsProper, AreSame, progression_of_grid}
 use Rattle.clock_terms.specs.Asked.{Asks, converted, IsGiven}
 use Rattle.clock_terms.specs.Source.{Source}
 use Rattle.clock_terms.specs.Clocking.{Said, Held, SourceHolds, RelationHolds}

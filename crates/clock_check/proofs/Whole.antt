@@ -1,13 +1,10 @@
 -- Where no rule is broken, the parts that are made are a clocking.
-use Rattle.std.proofs.Common.{◌≡◌, ◌≢◌, ◌∙◌, refl, sym, ap, subst, ℕ, zero, suc, ◌+◌, ◌*◌, ◌^◌, ◌<◌, ◌≤◌, ◌⊎◌, inl, inr, ⊎_elim, Bool, true, false, if◌then◌else◌, List, [], ◌∷◌, ◌++◌, length, map, take, get_or, slice_index_or, slice_get, Option, Some, None, option_map, All, Contains, arith, mul-pos}
-use Rattle.std.specs.List.{count_by}
+use Rattle.std.proofs.Common.{◌≡◌, ◌≢◌, ◌∙◌, refl, sym, ap, subst, ℕ, zero, suc, ◌+◌, ◌*◌, ◌^◌, ◌<◌, ◌⊎◌, inl, inr, ⊎_elim, Bool, true, false, if◌then◌else◌, List, [], ◌∷◌, ◌++◌, length, map, get_or, slice_index_or, slice_get, Option, Some, None, option_map, All, Contains, arith, mul-pos}
 use Rattle.std.proofs.lemmas.Option.{slice_get-map, slice_get_within, get_or_from_slice_get}
 use Rattle.std.proofs.lemmas.List.{length-map}
 use Rattle.std.proofs.lemmas.List.Elements.{All-contains, Contains-get_or}
-use Rattle.rational_time.specs.declared.ratio.Ratio.{Ratio}
 use Rattle.rational_time.specs.Multiple.{HasMultipleBelow}
 use Rattle.flat_model.specs.declared.clock.Clock.{Clock}
-use Rattle.flat_model.specs.declared.clock.Clock.TheVariants.{Periodic, Event}
 use Rattle.flat_model.specs.declared.clock.Clocking.{Clocking}
 use Rattle.flat_model.specs.declared.expression.Expr.{Expr}
 use Rattle.flat_model.specs.declared.clock.Conversion.{Conversion}
@@ -19,29 +16,27 @@ use Rattle.clock_terms.specs.declared.data.Terms.{Terms}
 use Rattle.clock_terms.specs.declared.data.Classes.{Classes}
 use Rattle.clock_terms.specs.declared.data.Grid.{Grid}
 use Rattle.clock_terms.specs.declared.data.Relation.{Relation}
-use Rattle.clock_terms.specs.Position.{Position, IsAt, at_ratio, at_signed, part, whole, plus, position, Progression, IsProper, AreSame, progression_of, progression_of_grid, IsFine, IsNotNegative}
-use Rattle.clock_terms.specs.Asked.{Asks, converted, IsGiven}
-use Rattle.clock_terms.specs.Source.{Source, sources_of}
-use Rattle.clock_terms.specs.Clocking.{Said, Held, SourceHolds, RelationHolds, IsClocking, IsRunnable, IsOnItsAxis}
-use Rattle.clock_terms.specs.Classing.{AreClassesOf, class_in, is_clocked, partition_in}
-use Rattle.clock_terms.specs.Nodes.{Node, entry, nodes_of}
+use Rattle.clock_terms.specs.Position.{IsAt, at_ratio, at_signed, whole, Progression, IsProper, AreSame, progression_of, progression_of_grid, IsFine}
+use Rattle.clock_terms.specs.Asked.{converted, IsGiven}
+use Rattle.clock_terms.specs.Source.{Source}
+use Rattle.clock_terms.specs.Clocking.{Said, Held, SourceHolds, RelationHolds, IsClocking, IsRunnable}
+use Rattle.clock_terms.specs.Classing.{AreClassesOf, class_in, is_clocked}
+use Rattle.clock_terms.specs.Nodes.{Node, nodes_of}
 use Rattle.clock_terms.specs.Said.{AreTermsOf, IsNode, numbered, IsNamed}
 use Rattle.clock_terms.proofs.Progressions.{same_sym, same_trans, same_ticks, ticks_same}
-use Rattle.clock_spread.specs.Rounds.{Gets, AreGotten, after_round}
 use Rattle.clock_spread.proofs.Limits.{grid_proper}
-use Rattle.clock_spread.proofs.Losing.{round_keeps}
 use Rattle.sub_clock_solve.specs.Grain.{denominators, own_denominators}
-use Rattle.sub_clock_solve.specs.Solving.{said_of, place_of, StandsFor, AreGrids, AreSolved, FailsAt, NoneFails, IsSolution}
+use Rattle.sub_clock_solve.specs.Solving.{said_of, place_of, StandsFor, AreSolved, IsSolution}
 use Rattle.sub_clock_solve.specs.Standing.{FitTogether}
 use Rattle.sub_clock_solve.proofs.Once.{gotten_proper, place_has}
 use Rattle.sub_clock_solve.proofs.Giving.{sources_proper}
 use Rattle.sub_clock_solve.proofs.Rising.{IsRising, gotten_rising, gotten_keeps}
 use Rattle.sub_clock_solve.proofs.Clashing.{asks_same}
 use Rattle.clock_check.specs.Broken.{StartsEarly, HasNoWholeShift, HasNoWholeFactor}
-use Rattle.clock_check.specs.Checking.{grid_of, held_by, HasNoFactor, IsGridWith, IsNowhere, HaveFactors, StartInTime, AreShiftsWhole, AreFactorsWhole}
-use Rattle.clock_check.specs.ClockingOf.{number_in, class_of_name, held_in, AreSites, IsClockingOf}
+use Rattle.clock_check.specs.Checking.{grid_of, held_by, AreFactorsWhole}
+use Rattle.clock_check.specs.ClockingOf.{number_in, class_of_name, held_in, IsClockingOf}
 use Rattle.clock_check.specs.Inferring.{IsInferred}
-use Rattle.clock_check.specs.Numbering.{number_at, grid_at, AreNumbers}
+use Rattle.clock_check.specs.Numbering.{AreNumbers}
 use Rattle.clock_check.specs.Making.{number_of_name, node_numbers, clock_by, clock_of_grid}
 use Rattle.clock_check.specs.Made.{IsMade}
 use Rattle.clock_check.proofs.Making.{own_numbers, numbers_entries, own_length, own_get, sites_below}

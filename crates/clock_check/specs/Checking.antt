@@ -1,18 +1,18 @@
 -- What is answered for the clocks of a model: its clocking, or the first rule that is broken.
-use Rattle.std.specs.Prelude.{◌≡◌, ℕ, List, Option, Some, None, Result, Ok, Err, slice_get, option_map, Contains, ⊤, if◌then◌else◌}
+use Rattle.std.specs.Prelude.{◌≡◌, ℕ, List, Option, Some, None, Result, Ok, Err, slice_get, option_map, ⊤, if◌then◌else◌}
 use Rattle.flat_model.specs.declared.clock.Clocking.{Clocking}
 use Rattle.flat_model.specs.declared.model.FlatModel.{FlatModel}
 use Rattle.clock_terms.specs.declared.data.Terms.{Terms}
 use Rattle.clock_terms.specs.declared.data.Classes.{Classes}
-use Rattle.clock_terms.specs.declared.data.Relation.{Relation}
 use Rattle.clock_terms.specs.declared.data.Grid.{Grid}
 use Rattle.clock_terms.specs.declared.data.Cause.TheVariants.{Condition}
-use Rattle.clock_terms.specs.Position.{Progression, progression_of_grid}
+use Rattle.clock_terms.specs.Position.{progression_of_grid}
 use Rattle.clock_terms.specs.Clocking.{Held, RelationHolds}
 use Rattle.clock_terms.specs.Classing.{class_in, is_clocked}
 use Rattle.clock_terms.specs.Nodes.{Node}
 use Rattle.clock_terms.specs.Said.{IsNode, numbered, IsHolding}
-use Rattle.clock_spread.specs.Least.{IsLeast, IsNumberIn}
+use Rattle.clock_terms.specs.Least.{IsLeast}
+use Rattle.clock_spread.specs.Least.{IsNumberIn}
 use Rattle.sub_clock_solve.specs.Solving.{said_of, place_of}
 use Rattle.clock_check.specs.Inferring.{IsInferred}
 use Rattle.clock_check.specs.Broken.{StartsEarly, HasNoWholeShift, HasNoWholeFactor}

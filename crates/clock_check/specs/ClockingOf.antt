@@ -1,5 +1,5 @@
 -- The clocking of a model. MLS 3.6, chapter 16, "Sub-Clock Inferencing"; the limits are this project's own.
-use Rattle.std.specs.Prelude.{◌≡◌, ℕ, Bool, true, false, List, [], ◌∷◌, length, Option, Some, None, slice_get, option_map, count_by, if◌then◌else◌}
+use Rattle.std.specs.Prelude.{◌≡◌, ℕ, true, List, [], ◌∷◌, length, Option, Some, None, slice_get, option_map, count_by, if◌then◌else◌}
 use Rattle.flat_model.specs.declared.clock.Clock.{Clock}
 use Rattle.flat_model.specs.declared.clock.Clocking.{Clocking}
 use Rattle.flat_model.specs.declared.clock.ClockExpr.{ClockExpr}
@@ -12,7 +12,7 @@ use Rattle.clock_terms.specs.declared.data.Terms.{Terms}
 use Rattle.clock_terms.specs.declared.data.Classes.{Classes}
 use Rattle.clock_terms.specs.declared.data.Constructor.{Constructor}
 use Rattle.clock_terms.specs.Position.{progression_of}
-use Rattle.clock_terms.specs.Source.{Kind, Inferred, Every, AtSite, Other, kind_of}
+use Rattle.clock_terms.specs.Source.{Kind, AtSite, kind_of}
 use Rattle.clock_terms.specs.Clocking.{Held, IsClocking}
 use Rattle.clock_terms.specs.Classing.{class_in, is_clocked, partition_in}
 use Rattle.clock_terms.specs.Nodes.{Node}

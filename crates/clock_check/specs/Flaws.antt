@@ -1,5 +1,5 @@
 -- Starts, shifts and factors that no clock may have.
-use Rattle.std.specs.Prelude.{◌≡◌, ◌≢◌, ℕ, ◌⊎◌, Bool, true, List, Some, None}
+use Rattle.std.specs.Prelude.{◌≡◌, ℕ, Bool, List, Some}
 use Rattle.clock_terms.specs.declared.data.Grid.{Grid}
 use Rattle.clock_check.specs.declared.flaw.Flaw.{Flaw}
 use Rattle.clock_check.specs.declared.flaw.Flaw.TheVariants.{Early, Shift, Factor}

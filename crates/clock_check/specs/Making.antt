@@ -1,5 +1,5 @@
 -- The parts of a clocking, from what is kept.
-use Rattle.std.specs.Prelude.{◌≡◌, ℕ, ◌+◌, ◌<◌, Bool, true, false, List, [], ◌∷◌, ◌++◌, length, map, Option, Some, None, slice_get, slice_index_or, if◌then◌else◌}
+use Rattle.std.specs.Prelude.{◌≡◌, ℕ, ◌+◌, ◌<◌, List, [], ◌∷◌, ◌++◌, length, map, Option, Some, None, slice_get, slice_index_or, if◌then◌else◌}
 use Rattle.flat_model.specs.declared.clock.Clock.{Clock}
 use Rattle.flat_model.specs.declared.clock.Clock.TheVariants.{Periodic, Event}
 use Rattle.flat_model.specs.declared.model.FlatName.{FlatName}
@@ -10,7 +10,7 @@ use Rattle.clock_terms.specs.declared.data.Constructor.{Constructor}
 use Rattle.flat_model.specs.declared.clock.ClockExpr.{ClockExpr}
 use Rattle.flat_model.specs.declared.clock.ClockExpr.TheVariants as clock
 use Rattle.flat_model.specs.declared.expression.Expr.{Expr}
-use Rattle.clock_terms.specs.Source.{Kind, Inferred, Every, AtSite, Other, kind_of}
+use Rattle.clock_terms.specs.Source.{Kind, AtSite, kind_of}
 
 -- an input has no class
 abbrev pub number_of_name : FlatName → Option ℕ → Option ℕ

@@ -1,5 +1,5 @@
 -- Each equation has its node.
-use Rattle.std.proofs.Common.{◌≡◌, ◌∙◌, refl, ap, ap₂, ℕ, zero, suc, ◌+◌, ◌<◌, List, [], ◌∷◌, ◌++◌, length, slice_get, Option, Some, None, arith}
+use Rattle.std.proofs.Common.{◌≡◌, ◌∙◌, ap, ap₂, ℕ, zero, suc, ◌+◌, ◌<◌, List, [], ◌∷◌, ◌++◌, length, slice_get, Option, Some, None, arith}
 use Rattle.std.proofs.lemmas.List.{length-append}
 use Rattle.flat_model.specs.declared.clock.ClockExpr.{ClockExpr}
 use Rattle.flat_model.specs.declared.equation.Equation.{Equation}
@@ -8,39 +8,7 @@ use Rattle.flat_model.specs.Models.{clause_of}
 use Rattle.clock_terms.specs.Mentions.{clock_cuts}
 use Rattle.clock_terms.specs.Nodes.{Node, cut_nodes, own_node, side_cuts, leading_clock, nodes_of_equation, nodes_from}
 use Rattle.clock_terms.specs.Said.{IsNode}
-
-pub own_at : {A : Type 0} (xs : List A) (a : A) (ys : List A) → slice_get (xs ++ a ∷ ys) (length xs) ≡ Some a
-own_at [] a ys = refl
-own_at (x ∷ xs) a ys = own_at xs a ys
-
-pub get_left : {A : Type 0} (xs ys : List A) (j : ℕ) (a : A) → slice_get xs j ≡ Some a → slice_get (xs ++ ys) j ≡ Some a
-get_left [] ys j a e = absurd cc
-get_left (x ∷ xs) ys zero a e = e
-get_left (x ∷ xs) ys (suc j) a e = get_left xs ys j a e
-
-pub get_right : {A : Type 0} (xs ys : List A) (j : ℕ) → slice_get (xs ++ ys) (length xs + j) ≡ slice_get ys j
-get_right [] ys j = ap (λ n. slice_get ys n) (let e : 0 + j ≡ j = omega arith in e)
-get_right (x ∷ xs) ys j = ap (λ n. slice_get (x ∷ (xs ++ ys)) n) (let e : suc (length xs) + j ≡ suc (length xs + j) = omega arith in e) ∙ get_right xs ys j
-
-node_for : (clauses : List ClockExpr) (before equations : List Equation) (k : ℕ) → k < length equations
-    → (j : ℕ) × (node : Node) × (slice_get (nodes_from clauses before equations) j ≡ Some node) × (node.equation ≡ length before + k) × (node.cause ≡ None)
-node_for clauses before [] k lt = absurd (omega (arith, lt))
-node_for clauses before (equation ∷ rest) zero lt =
-    let clock = leading_clock clauses before (clause_of equation) in
-    let cuts = cut_nodes (length before) (clock_cuts clock) in
-    let own = own_node clock (length before) equation in (
-      length cuts,
-      own,
-      get_left (cuts ++ own ∷ cut_nodes (length before) (side_cuts equation)) (nodes_from clauses (before ++ equation ∷ []) rest) (length cuts) own
-          (own_at cuts own (cut_nodes (length before) (side_cuts equation))),
-      (let e : length before ≡ length before + 0 = omega arith in e),
-      refl,
-    )
-node_for clauses before (equation ∷ rest) (suc k) lt =
-    let nodes = nodes_of_equation (leading_clock clauses before (clause_of equation)) (length before) equation in
-    let (j, node, at, is, none) = node_for clauses (before ++ equation ∷ []) rest k (omega (arith, lt)) in
-    let size : length (before ++ equation ∷ []) ≡ length before + 1 = length-append before (equation ∷ []) in
-    (length nodes + j, node, get_right nodes (nodes_from clauses (before ++ equation ∷ []) rest) j ∙ at, omega (arith, is, size), none)
+use Rattle.clock_check.proofs.Ready.{own_at, get_left, get_right, node_for}
 
 pub node_of_equation : (model : FlatModel) (k : ℕ) → k < length model.equations → (j : ℕ) × (node : Node) × IsNode model j node × (node.equation ≡ k) × (node.cause ≡ None)
 node_of_equation model k lt =

@@ -34,7 +34,7 @@ taken_if : (b : Bool) (o : Option Progression) (p : Progression) → if_clocked 
 taken_if true o p e = (refl, e)
 taken_if false o p e = absurd (none-some p e)
 
-equal_of : (a b : ℕ) → (a == b) ≡ true → a ≡ b
+pub equal_of : (a b : ℕ) → (a == b) ≡ true → a ≡ b
 equal_of a b e = ⊎_elim (λ h. h.1) (λ h. absurd (false≢true (sym h.0 ∙ e))) (eqb_tells a b)
 
 seeded_from : (class_of : ℕ → ℕ) (ss : List Source) (c : ℕ) (p : Progression) → seeded class_of ss c ≡ Some p → (s : Source) × Contains ss s × (class_of s.node ≡ c) × (s.clock ≡ p)

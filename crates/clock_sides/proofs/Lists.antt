@@ -1,6 +1,7 @@
 -- What is found in lists, and what holds of each of their elements.
 use Rattle.std.proofs.Common.{◌≡◌, refl, subst, ℕ, zero, suc, Bool, true, false, ◌&&◌, List, [], ◌∷◌, ◌++◌, slice_get, Some, Contains, arith}
 use Rattle.std.proofs.lemmas.Bool.{false≢true}
+use Rattle.std.proofs.lemmas.Option.{none-some}
 use Rattle.std.proofs.lemmas.List.Elements.{Contains-append_left, Contains-append_right}
 use Rattle.clock_terms.specs.Mentions.{Mention, Cut}
 use Rattle.clock_terms.proofs.Joining.{here, there, in_none}
@@ -48,6 +49,11 @@ pub at_of : {X : Type 0} (xs : List X) (x : X) → Contains xs x → (j : ℕ) �
 at_of [] x c = absurd (in_none x c)
 at_of (y ∷ ys) x (zero, lt, e) = (0, subst (λ z. Some y ≡ Some z) e refl)
 at_of (y ∷ ys) x (suc k, lt, e) = let r = at_of ys x (k, omega (arith, lt), e) in (suc r.0, r.1)
+
+pub contains_at : {X : Type 0} (xs : List X) (n : ℕ) (x : X) → slice_get xs n ≡ Some x → Contains xs x
+contains_at [] n x e = absurd (none-some x e)
+contains_at (y ∷ ys) zero x e = let same : y ≡ x = cc in subst (λ z. Contains (y ∷ ys) z) same (here y ys)
+contains_at (y ∷ ys) (suc n) x e = there y ys x (contains_at ys n x e)
 
 pub both_true : (a b : Bool) → a ≡ true → b ≡ true → (a && b) ≡ true
 both_true true b e f = f

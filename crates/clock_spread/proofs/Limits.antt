@@ -1,15 +1,14 @@
 -- Positions and the ratios that stand for them: signs, lowest terms and limits.
-use Rattle.std.proofs.Common.{◌≡◌, ◌∙◌, refl, sym, ap, ap₂, subst, ℕ, zero, suc, ◌+◌, ◌-◌, ◌*◌, ◌^◌, ◌<◌, ◌≤◌, ◌↔◌, ◌⊎◌, inl, inr, ⊎_elim, Bool, true, false, if◌then◌else◌, arith, mul-pos, le_of_mul-le-mul_right, ℤ, pos, neg_ℤ, ◌+ℤ◌, ◌<ℤ◌, unsigned_abs}
+use Rattle.std.proofs.Common.{◌≡◌, ◌∙◌, refl, sym, ap, ap₂, subst, ℕ, zero, suc, ◌+◌, ◌-◌, ◌*◌, ◌^◌, ◌<◌, ◌≤◌, ◌↔◌, ◌⊎◌, inl, inr, ⊎_elim, Bool, true, false, if◌then◌else◌, arith, mul-pos, le_of_mul-le-mul_right, ℤ, pos, ◌+ℤ◌, ◌<ℤ◌, unsigned_abs}
 use Rattle.std.specs.Int.{abs_diff}
 use Rattle.std.proofs.lemmas.Int.{ints}
-use Rattle.std.proofs.Math.Nat.{eq_of_mul-eq-mul_right}
 use Rattle.rational_time.specs.declared.ratio.Ratio.{Ratio}
-use Rattle.rational_time.specs.Fraction.{IsFraction, IsLowest, Exceeds, DoesNotFit, ArePartsBelow}
+use Rattle.rational_time.specs.Fraction.{IsFraction, Exceeds, DoesNotFit, ArePartsBelow}
 use Rattle.rational_time.specs.Shift.{signed, moved_num}
 use Rattle.clock_terms.specs.declared.data.Grid.{Grid}
-use Rattle.clock_spread.specs.Parts.{moved_start, IsFineStart, HaveSameParts}
+use Rattle.clock_spread.specs.Parts.{moved_start, HaveSameParts}
 use Rattle.rational_time.proofs.Fractions.{IsLowest-ratio, IsGcd-ratio, below_limits, lowest_same}
-use Rattle.clock_terms.specs.Position.{Position, IsAt, at_ratio, at_signed, part, plus, minus, IsPastLimit, IsTooFine, IsFine, Progression, IsProper, AreSame, progression_of_grid}
+use Rattle.clock_terms.specs.Position.{Position, IsAt, at_ratio, at_signed, IsPastLimit, IsTooFine, IsFine, Progression, IsProper, AreSame, progression_of_grid}
 
 -- the difference of two numbers, where it is w
 diff_is : (m l w : ℕ) → m ≡ w + l → abs_diff m l ≡ w

@@ -1,10 +1,10 @@
 -- Clocks with a part that reaches the limit.
-use Rattle.std.proofs.Common.{◌≡◌, ◌≢◌, ◌∙◌, refl, sym, ap, subst, ℕ, zero, suc, ◌+◌, ◌<◌, ◌≤◌, ◌^◌, ◌⊎◌, inl, inr, ⊎_elim, Bool, true, false, ◌&&◌, ◌==◌, if◌then◌else◌, List, [], ◌∷◌, Option, Some, None, option_map, length, get_or, drop, arith, All, Contains}
+use Rattle.std.proofs.Common.{◌≡◌, ◌≢◌, ◌∙◌, refl, sym, subst, ℕ, zero, suc, ◌+◌, ◌<◌, ◌^◌, ◌⊎◌, inl, inr, ⊎_elim, Bool, true, false, ◌&&◌, ◌==◌, if◌then◌else◌, List, [], ◌∷◌, Option, Some, None, option_map, length, get_or, drop, arith, All}
 use Rattle.std.proofs.lemmas.List.{drop_more}
 use Rattle.flat_model.specs.declared.clock.Conversion.{Conversion}
 use Rattle.clock_terms.specs.declared.data.Grid.{Grid}
 use Rattle.clock_terms.specs.declared.data.Relation.{Relation}
-use Rattle.clock_terms.specs.Position.{Progression, AreSame, progression_of_grid, IsTooFine, IsFine, IsProper}
+use Rattle.clock_terms.specs.Position.{Progression, AreSame, progression_of_grid, IsTooFine, IsProper}
 use Rattle.clock_terms.specs.Asked.{converted, inverse, IsGiven}
 use Rattle.clock_terms.specs.Clocking.{Said, Held}
 use Rattle.clock_terms.proofs.Conversions.{converted_same, converted_proper, inverse_given}
@@ -13,9 +13,9 @@ use Rattle.clock_spread.specs.declared.offers.Found.TheVariants.{Not, Kept, Lost
 use Rattle.clock_spread.specs.Rounds.{is_given, first_some, seeded, offer, offered, if_clocked, after_round}
 use Rattle.clock_terms.specs.Source.{Source}
 use Rattle.std.proofs.lemmas.List.Elements.{All-head, All-tail}
-use Rattle.clock_spread.specs.Found.{Agrees, Agree, IsExact, IsFineFound, NoneLost, found_of}
-use Rattle.clock_spread.specs.Least.{IsLeast, IsLeastOf, IsNumberIn}
-use Rattle.clock_spread.specs.Turn.{AreProper, following, after_more, Newly, NewlyTooFine, AreLost, IsNextLost, IsFirstLost}
+use Rattle.clock_spread.specs.Found.{Agrees, IsExact, IsFineFound, NoneLost, found_of}
+use Rattle.clock_spread.specs.Least.{IsLeastOf, IsNumberIn}
+use Rattle.clock_spread.specs.Turn.{AreProper, following, after_more, NewlyTooFine, AreLost, IsNextLost, IsFirstLost}
 use Rattle.clock_spread.proofs.Limits.{grid_proper, fine_not_too_fine}
 use Rattle.clock_spread.proofs.Sizes.{too_fine_same}
 use Rattle.clock_spread.proofs.Only.{given_is}

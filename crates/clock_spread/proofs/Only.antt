@@ -1,15 +1,15 @@
 -- Every clocking gives each class just the clock that it gets in a round.
-use Rattle.std.proofs.Common.{◌≡◌, ◌∙◌, refl, sym, ap, subst, ℕ, zero, suc, ◌<◌, ◌≤◌, ◌==◌, ◌⊎◌, inl, inr, Bool, true, false, ◌&&◌, if◌then◌else◌, List, [], ◌∷◌, Option, Some, None, option_map, nat_lt, arith, All, Contains}
+use Rattle.std.proofs.Common.{◌≡◌, ◌∙◌, refl, sym, subst, ℕ, zero, suc, ◌==◌, ◌⊎◌, inl, inr, Bool, true, false, ◌&&◌, if◌then◌else◌, List, [], ◌∷◌, Option, Some, None, option_map, All, Contains}
 use Rattle.std.proofs.lemmas.List.Elements.{All-head, All-tail, All-contains}
 use Rattle.std.proofs.lemmas.Bool.{eqb-true, ltb-true}
 use Rattle.flat_model.specs.declared.clock.Conversion.{Conversion}
 use Rattle.flat_model.specs.declared.clock.Conversion.TheVariants.{Sub, Super, Shift, Back, NoClock}
 use Rattle.clock_terms.specs.declared.data.Relation.{Relation}
-use Rattle.clock_terms.specs.Position.{Position, IsAt, Progression, IsProper, position, AreSame, TickTogether}
-use Rattle.clock_terms.specs.Asked.{Asks, converted, inverse, IsGiven}
+use Rattle.clock_terms.specs.Position.{Progression, IsProper, AreSame}
+use Rattle.clock_terms.specs.Asked.{converted, inverse, IsGiven}
 use Rattle.clock_terms.specs.Source.{Source}
-use Rattle.clock_terms.specs.Clocking.{Said, Held, SourceHolds, RelationHolds, IsClocking, IsRunnable}
-use Rattle.clock_terms.proofs.Progressions.{same_refl, same_sym, same_trans, same_ticks, ticks_same}
+use Rattle.clock_terms.specs.Clocking.{Said, Held, SourceHolds, RelationHolds, IsClocking}
+use Rattle.clock_terms.proofs.Progressions.{same_sym, same_trans, same_ticks, ticks_same}
 use Rattle.clock_terms.proofs.Conversions.{asks_converted, converted_asks, converted_same, converted_proper, asks_back, inverse_given}
 use Rattle.clock_spread.specs.Rounds.{is_given, first_some, seeded, offer, offered, if_clocked, after_round, Gets, AllGet, AreGotten}
 

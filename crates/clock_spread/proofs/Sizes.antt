@@ -1,9 +1,8 @@
 -- How fine a clock is does not depend on the fractions that say it.
-use Rattle.std.proofs.Common.{◌≡◌, ◌∙◌, refl, sym, ap, subst, ℕ, zero, suc, ◌+◌, ◌-◌, ◌*◌, ◌^◌, ◌<◌, ◌≤◌, ◌↔◌, ◌⊎◌, inl, inr, ⊎_elim, List, [], ◌∷◌, ◌++◌, arith, mul-pos, le_of_mul-le-mul_right, le_of_lt}
-use Rattle.std.specs.Int.{◌∣◌, abs_diff}
-use Rattle.std.proofs.Math.Nat.{eq_of_mul-eq-mul_right, le_of_dvd, dvd_trans, pos_of_dvd_of_pos}
+use Rattle.std.proofs.Common.{◌≡◌, ap, ℕ, ◌+◌, ◌-◌, ◌*◌, ◌<◌, ◌≤◌, inl, inr, ⊎_elim, arith, le_of_mul-le-mul_right, le_of_lt}
+use Rattle.std.specs.Int.{abs_diff}
+use Rattle.std.proofs.Math.Nat.{eq_of_mul-eq-mul_right}
 use Rattle.std.proofs.lemmas.Bool.{cases_lt}
-use Rattle.rational_time.specs.Fraction.{IsLowest, Exceeds}
 use Rattle.clock_terms.specs.Position.{Position, IsAt, IsPastLimit, Progression, IsProper, AreSame, IsTooFine}
 
 -- two positions that are one have one size

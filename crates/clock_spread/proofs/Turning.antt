@@ -1,5 +1,5 @@
 -- A round of spreading leads from what stands for the clocks of one round to what stands for those of the next.
-use Rattle.std.proofs.Common.{◌≡◌, ◌≢◌, ◌∙◌, refl, sym, ap, subst, ℕ, zero, suc, ◌+◌, ◌<◌, ◌≤◌, ◌==◌, ◌↔◌, ◌⊎◌, inl, inr, ⊎_elim, Bool, true, false, ◌&&◌, ◌||◌, if◌then◌else◌, List, [], ◌∷◌, Option, Some, None, option_map, filter, arith, All, Contains, length, get_or, slice_index_or}
+use Rattle.std.proofs.Common.{◌≡◌, ◌≢◌, ◌∙◌, refl, sym, ap, subst, ℕ, zero, suc, ◌+◌, ◌<◌, ◌≤◌, ◌==◌, ◌↔◌, ◌⊎◌, inl, inr, ⊎_elim, Bool, true, false, ◌&&◌, ◌||◌, if◌then◌else◌, List, [], ◌∷◌, Option, Some, None, filter, arith, All, Contains, length, get_or, slice_index_or}
 use Rattle.std.proofs.lemmas.List.{get_or_default}
 use Rattle.std.proofs.lemmas.List.Elements.{All-contains, All-tail}
 use Rattle.std.proofs.lemmas.Bool.{eqb-true, eqb-false, eq-eqb}
@@ -10,8 +10,8 @@ use Rattle.clock_spread.specs.declared.offers.Found.{Found}
 use Rattle.clock_spread.specs.declared.offers.Found.TheVariants.{Not, Kept, Lost}
 use Rattle.clock_spread.specs.Rounds.{is_given, first_some, if_clocked, offered}
 use Rattle.clock_spread.specs.Found.{Agrees, Agree, IsExact, IsFineFound, NoneLost, found_of, class_in, touches, HasEnds}
-use Rattle.clock_spread.specs.Queue.{marked, unmarked, Queues, other_end, IsOtherEnd, IsNextTo}
-use Rattle.clock_spread.specs.Turn.{Commits, said_by, following, AreTouching, Stands, after_more, AreProper, Newly, NewlyTooFine, AreLost, IsFirstLost, Settles}
+use Rattle.clock_spread.specs.Queue.{marked, unmarked, Queues, other_end, IsNextTo}
+use Rattle.clock_spread.specs.Turn.{Commits, said_by, following, AreTouching, Stands, after_more, AreProper, AreLost, IsFirstLost, Settles}
 use Rattle.clock_spread.proofs.Spreading.{IsBetween, offered_from, offered_some, offered_touching}
 use Rattle.clock_spread.proofs.Losing.{following_proper, kept_fine, exact_lost}
 

@@ -1,8 +1,8 @@
 -- A worked model: class 0 ticks each second, class 1 is each third tick of it, and class 0 is class 2 later by 1/2 of its interval.
-use Rattle.std.proofs.Common.{◌≡◌, refl, ℕ, zero, suc, true, false, Bool, List, [], ◌∷◌, Option, Some, None}
+use Rattle.std.proofs.Common.{◌≡◌, refl, true, [], ◌∷◌, Some, None}
 use Rattle.flat_model.specs.declared.clock.Conversion.TheVariants.{Sub, Shift}
-use Rattle.clock_terms.specs.Position.{Progression, Position, whole}
-use Rattle.clock_terms.specs.Source.{Source, every}
+use Rattle.clock_terms.specs.Position.{whole}
+use Rattle.clock_terms.specs.Source.{every}
 use Rattle.clock_terms.specs.Clocking.{Said}
 use Rattle.clock_spread.specs.Rounds.{after_round}
 

@@ -1,7 +1,6 @@
 -- What is kept of the clocks of classes while they spread.
-use Rattle.std.specs.Prelude.{◌≡◌, ℕ, ◌^◌, ◌<◌, ◌≢◌, ◌||◌, ◌&&◌, ◌==◌, Bool, true, false, List, [], ◌∷◌, ◌++◌, Option, Some, None, All, length, slice_index_or}
+use Rattle.std.specs.Prelude.{◌≡◌, ℕ, ◌^◌, ◌<◌, ◌≢◌, ◌||◌, ◌&&◌, ◌==◌, Bool, true, false, List, [], ◌∷◌, ◌++◌, Option, Some, None, length, slice_index_or}
 use Rattle.clock_terms.specs.declared.data.Relation.{Relation}
-use Rattle.clock_terms.specs.declared.data.Grid.{Grid}
 use Rattle.clock_terms.specs.Position.{Progression, AreSame, progression_of_grid, IsFine, IsTooFine}
 use Rattle.clock_terms.specs.Clocking.{Held}
 use Rattle.clock_spread.specs.declared.offers.Found.{Found}

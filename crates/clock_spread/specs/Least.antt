@@ -1,9 +1,6 @@
--- The least number of which something holds.
-use Rattle.std.specs.Prelude.{◌≡◌, ℕ, ◌<◌, Bool, true, false, List, Option, Some, None, Contains, min}
-
--- a number is the least of which something holds
-abbrev pub IsLeast : (ℕ → Type 0) → ℕ → Type 0
-IsLeast P n = P n × ((m : ℕ) → m < n → P m → ⊥)
+-- The least number of which something holds, where it is asked for or found step by step.
+use Rattle.std.specs.Prelude.{◌≡◌, ℕ, Bool, true, false, List, Option, Some, None, Contains, min}
+use Rattle.clock_terms.specs.Least.{IsLeast}
 
 -- the least number of which something holds, or none where it holds of none
 abbrev pub IsLeastOf : (ℕ → Type 0) → Option ℕ → Type 0

@@ -3,13 +3,13 @@ use Rattle.std.specs.Prelude.{◌≡◌, ◌≢◌, ℕ, zero, suc, ◌<◌, ◌
 use Rattle.clock_terms.specs.declared.data.Relation.{Relation}
 use Rattle.clock_terms.specs.Position.{Progression, IsProper, IsTooFine}
 use Rattle.clock_terms.specs.Clocking.{Said, Held}
-use Rattle.clock_terms.specs.Source.{Source}
 use Rattle.clock_spread.specs.declared.offers.Found.{Found}
 use Rattle.clock_spread.specs.declared.offers.Found.TheVariants.{Not, Lost}
 use Rattle.clock_spread.specs.Rounds.{first_some, if_clocked, offered}
 use Rattle.clock_spread.specs.Found.{Agree, NoneLost, found_of, class_in, touches}
 use Rattle.clock_spread.specs.Queue.{marked, IsNextTo}
-use Rattle.clock_spread.specs.Least.{IsLeast, IsLeastOf, IsNumberIn}
+use Rattle.clock_terms.specs.Least.{IsLeast}
+use Rattle.clock_spread.specs.Least.{IsLeastOf, IsNumberIn}
 
 -- at the first n of these classes stand the new clocks, and at others the old ones
 abbrev pub Commits : ℕ → List ℕ → List Found → List Found → List Found → Type 0

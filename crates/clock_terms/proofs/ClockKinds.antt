@@ -1,10 +1,10 @@
 -- What kind of clock each expression for a clock is.
-use Rattle.std.proofs.Common.{◌≡◌, refl, ap, ◌∙◌, sym, ℕ}
+use Rattle.std.proofs.Common.{◌≡◌, ap, ◌∙◌, sym, ℕ}
 use Rattle.flat_model.specs.declared.clock.Conversion.{Conversion}
 use Rattle.flat_model.specs.declared.expression.Expr.{Expr}
 use Rattle.flat_model.specs.declared.clock.ClockExpr.{ClockExpr}
 use Rattle.flat_model.specs.declared.clock.ClockExpr.TheVariants as clock
-use Rattle.flat_model.specs.declared.clock.ClockExpr.TheOpen.{ClockExpr-F, Expr-F}
+use Rattle.flat_model.specs.declared.clock.ClockExpr.TheOpen.{ClockExpr-F}
 use Rattle.flat_model.specs.declared.clock.ClockExpr.TheViews.{roll-ClockExpr}
 use Rattle.flat_model.specs.declared.clock.ClockExpr.TheFolds.{fold-roll-ClockExpr, fold-Expr, map-ClockExpr}
 use Rattle.clock_terms.specs.Source.{Kind, Inferred, Every, AtSite, Other, kind_of_level, kind_of}

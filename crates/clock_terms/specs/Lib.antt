@@ -10,3 +10,4 @@ pub mod Listed
 pub mod Gathered
 pub mod Classing
 pub mod gathering
+pub mod Laws

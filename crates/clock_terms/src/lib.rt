@@ -4,8 +4,10 @@
 mod cut;
 mod data;
 mod gather;
+mod law;
 mod node;
 mod walk;
 
 pub use data::{Cause, Classes, Constructor, Grid, Grids, NodeOf, Relation, Terms};
 pub use gather::terms;
+pub use law::terms_once_law;

@@ -1,7 +1,6 @@
 -- The group of names in the classes of event conditions.
 use Rattle.std.proofs.Common.{◌≡◌, ◌∙◌, refl, ap, sym, ℕ, zero, suc, ◌+◌, ◌==◌, ◌&&◌, ◌||◌, ◌⊎◌, inl, inr, ⊎_elim, Bool, true, false, not, List, [], ◌∷◌, length, slice_get, Option, Some, None, arith}
 use Rattle.std.proofs.lemmas.Bool.{false≢true, and_parts, eq-eqb}
-use Rattle.std.proofs.lemmas.Bool.Decides.{eqb_tells}
 use Rattle.std.proofs.lemmas.Option.{none-some}
 use Rattle.flat_model.specs.declared.model.FlatModel.{FlatModel}
 use Rattle.flat_model.specs.declared.model.FlatName.{FlatName}
@@ -10,6 +9,7 @@ use Rattle.clock_terms.specs.declared.data.Cause.TheVariants.{Sampled, Condition
 use Rattle.clock_terms.specs.declared.data.Classes.{Classes}
 use Rattle.clock_terms.specs.Classing.{class_in}
 use Rattle.clock_terms.specs.Nodes.{Node, nodes_of}
+use Rattle.clock_sides.proofs.Axes.{equal_of}
 use Rattle.clock_sides.proofs.Lists.{both_true}
 use Rattle.site_ready.specs.Laws.{IsUnderCondition, IsGroupOf}
 
@@ -47,9 +47,6 @@ left_true false b e = absurd (false≢true e)
 right_true : (a b : Bool) → b ≡ true → (a || b) ≡ true
 right_true true b e = refl
 right_true false b e = e
-
-equal_of : (a b : ℕ) → (a == b) ≡ true → a ≡ b
-equal_of a b e = ⊎_elim (λ h. h.1) (λ h. absurd (false≢true (sym h.0 ∙ e))) (eqb_tells a b)
 
 module _ (model : FlatModel) (classes : Classes) where
   -- one of these nodes, numbered from n on, is a condition of class c

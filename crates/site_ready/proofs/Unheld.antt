@@ -1,5 +1,5 @@
 -- No clock decides of the names in the classes of event conditions.
-use Rattle.std.proofs.Common.{◌≡◌, ◌∙◌, refl, ap, sym, subst, ℕ, zero, suc, ◌⊎◌, inl, inr, ⊎_elim, Bool, true, false, List, [], ◌∷◌, ◌++◌, slice_get, Option, Some, None, Contains}
+use Rattle.std.proofs.Common.{◌≡◌, ◌∙◌, refl, ap, sym, subst, ℕ, ◌⊎◌, inl, inr, ⊎_elim, Bool, true, false, List, ◌++◌, slice_get, Option, Some, None, Contains}
 use Rattle.std.proofs.lemmas.Bool.{false≢true}
 use Rattle.std.proofs.lemmas.Option.{none-some, same_Some}
 use Rattle.std.proofs.lemmas.List.Elements.{Contains-append_left, Contains-append_right}
@@ -23,7 +23,6 @@ use Rattle.clock_terms.specs.Classing.{class_in, is_clocked}
 use Rattle.clock_terms.specs.Mentions.{Stands, seen, clock_mentions}
 use Rattle.clock_terms.specs.Nodes.{Node, nodes_of, own_node, cut_node}
 use Rattle.clock_terms.specs.Said.{IsNode, IsNamed, numbered}
-use Rattle.clock_terms.proofs.Joining.{here, there}
 use Rattle.clock_ready.proofs.Equations.{own_node_of}
 use Rattle.clock_ready.proofs.Fitting.{named}
 use Rattle.clock_ready.proofs.Good.{each_at, IsGood, IsGoodNode, model_good}
@@ -32,14 +31,9 @@ use Rattle.clock_sides.specs.Laws.{IsAnswered}
 use Rattle.clock_sides.proofs.Conditions.{IsSite, sites_are}
 use Rattle.clock_sides.proofs.Counted.{IsHoldOf, bare_shown, held_shown}
 use Rattle.clock_sides.proofs.Facts.{IsVariable, variable_class, number_none, cut_unclocked}
-use Rattle.clock_sides.proofs.Lists.{Found, found_left, found_right}
+use Rattle.clock_sides.proofs.Lists.{contains_at, Found, found_left, found_right}
 use Rattle.clock_sides.proofs.Sides.{standing_is, hold_is}
 use Rattle.site_ready.specs.Laws.{IsUnderCondition, IsGroupOf}
-
-contains_at : {A : Type 0} (xs : List A) (n : ℕ) (x : A) → slice_get xs n ≡ Some x → Contains xs x
-contains_at [] n x e = absurd (none-some x e)
-contains_at (y ∷ ys) zero x e = let same : y ≡ x = cc in subst (λ z. Contains (y ∷ ys) z) same (here y ys)
-contains_at (y ∷ ys) (suc n) x e = there y ys x (contains_at ys n x e)
 
 module _ (model : FlatModel) (clocking : Clocking) (table : Table) (instants : List Ratio) (is_model : IsModel model) (a : IsAnswered model clocking) where
   abbrev s : Setting

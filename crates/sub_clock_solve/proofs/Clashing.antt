@@ -1,12 +1,12 @@
 -- Kept clocks and what does not hold of them.
-use Rattle.std.proofs.Common.{◌≡◌, ◌∙◌, refl, sym, ap, subst, ℕ, ◌<◌, ◌↔◌, Bool, true, false, not, List, [], Option, Some, None, length, get_or, arith}
+use Rattle.std.proofs.Common.{◌≡◌, ◌∙◌, refl, sym, ap, subst, ℕ, ◌↔◌, Bool, true, false, not, List, [], Option, Some, None}
 use Rattle.clock_terms.specs.declared.data.Grid.{Grid}
 use Rattle.clock_terms.specs.declared.data.Relation.{Relation}
 use Rattle.flat_model.specs.declared.clock.Conversion.{Conversion}
-use Rattle.clock_terms.specs.Position.{Progression, AreSame, TickTogether, progression_of_grid, IsProper}
+use Rattle.clock_terms.specs.Position.{Progression, AreSame, progression_of_grid, IsProper}
 use Rattle.clock_terms.specs.Asked.{Asks, converted, IsGiven}
 use Rattle.clock_terms.specs.Source.{Source}
-use Rattle.clock_terms.specs.Clocking.{Held, SourceHolds, RelationHolds}
+use Rattle.clock_terms.specs.Clocking.{Held, RelationHolds}
 use Rattle.clock_terms.proofs.Progressions.{same_sym, same_trans, same_ticks, ticks_same}
 use Rattle.clock_terms.proofs.Conversions.{asks_converted, converted_asks, converted_same, converted_proper}
 use Rattle.clock_spread.specs.declared.offers.Found.{Found}
@@ -16,7 +16,7 @@ use Rattle.clock_spread.specs.Turn.{AreProper, said_by}
 use Rattle.clock_spread.proofs.Limits.{grid_proper}
 use Rattle.sub_clock_solve.specs.declared.given.Given.{Given}
 use Rattle.sub_clock_solve.specs.Given.{IsSource}
-use Rattle.sub_clock_solve.specs.Failing.{Differs, FailsGiven, kept_grid}
+use Rattle.sub_clock_solve.specs.Failing.{Differs, kept_grid}
 
 some_same : {A : Type 0} {a b : A} → Some a ≡ Some b → a ≡ b
 some_same e = cc

@@ -1,31 +1,28 @@
 -- The answers, from what is kept after all rounds.
-use Rattle.std.proofs.Common.{◌≡◌, ◌≢◌, ◌∙◌, refl, sym, ap, subst, ℕ, zero, suc, ◌+◌, ◌<◌, ◌≤◌, ◌^◌, ◌⊎◌, inl, inr, ⊎_elim, Bool, true, false, List, [], ◌∷◌, ◌++◌, Option, Some, None, All, length, take, drop, get_or, slice_index_or, arith}
-use Rattle.std.proofs.lemmas.List.{append-nil, append_assoc, get_or_default}
+use Rattle.std.proofs.Common.{◌≡◌, ◌∙◌, refl, sym, ap, subst, ℕ, zero, suc, ◌+◌, ◌<◌, ◌≤◌, ◌^◌, inl, inr, Bool, true, false, List, [], ◌∷◌, ◌++◌, Option, Some, None, All, length, take, drop, arith}
+use Rattle.std.proofs.lemmas.List.{append-nil}
 use Rattle.std.proofs.lemmas.List.Elements.{All-tail}
 use Rattle.std.proofs.lemmas.List.Sums.{count_by_more_yes}
 use Rattle.rational_time.specs.Multiple.{HasMultipleBelow}
 use Rattle.clock_terms.specs.declared.data.Terms.{Terms}
 use Rattle.clock_terms.specs.declared.data.Classes.{Classes}
 use Rattle.clock_terms.specs.declared.data.Grid.{Grid}
-use Rattle.clock_terms.specs.Position.{Progression, AreSame, progression_of_grid, IsProper, IsFine}
-use Rattle.clock_terms.specs.Source.{sources_of}
-use Rattle.clock_terms.specs.Clocking.{Said, Held, IsClocking}
+use Rattle.clock_terms.specs.Position.{IsProper}
+use Rattle.clock_terms.specs.Clocking.{Said, Held}
 use Rattle.clock_spread.specs.declared.offers.Found.{Found}
 use Rattle.clock_spread.specs.declared.offers.Found.TheVariants.{Not, Kept, Lost}
 use Rattle.clock_spread.specs.Found.{IsFineFound, Agrees, NoneLost, found_of}
 use Rattle.clock_spread.specs.Queue.{marked}
-use Rattle.clock_spread.specs.Least.{IsLeast, IsLeastOf, IsNumberIn}
+use Rattle.clock_terms.specs.Least.{IsLeast}
 use Rattle.clock_spread.specs.Rounds.{AreGotten}
-use Rattle.clock_spread.proofs.Leasts.{least_same}
 use Rattle.clock_spread.proofs.Only.{source_conflict, relation_conflict}
-use Rattle.sub_clock_solve.specs.Solving.{said_of, place_of, StandsFor, AreGrids, AreSolved, GetsNone, IsPastAt, IsTooFineAt, IsConflictAt, FailsAt, NoneFails, HasNoClocking, IsSolution}
-use Rattle.sub_clock_solve.specs.Grain.{denominators, own_denominators, IsGrainPast}
+use Rattle.sub_clock_solve.specs.Solving.{said_of, place_of, AreGrids, AreSolved, GetsNone, IsTooFineAt, FailsAt, HasNoClocking}
+use Rattle.sub_clock_solve.specs.Grain.{denominators, IsGrainPast}
 use Rattle.sub_clock_solve.specs.Gathering.{kept_of, kept_grids}
-use Rattle.sub_clock_solve.specs.Failing.{Differs, FailsGiven}
 use Rattle.sub_clock_solve.specs.Spreading.{IsSpread}
 use Rattle.sub_clock_solve.proofs.Grains.{fewer_below}
-use Rattle.sub_clock_solve.proofs.Gathers.{AllKept, count, kept_length, kept_take, kept_get, kept_more, den_append}
-use Rattle.sub_clock_solve.proofs.Rounding.{final, final_agree, final_proper, final_gotten, unknown_gets_none, gets_none_unknown, none_too_fine, first_too_fine}
+use Rattle.sub_clock_solve.proofs.Gathers.{AllKept, kept_length, kept_take, kept_get, kept_more, den_append}
+use Rattle.sub_clock_solve.proofs.Rounding.{final, final_agree, final_gotten, unknown_gets_none, gets_none_unknown, none_too_fine, first_too_fine}
 
 -- ---- denominators of the first clocks
 pub take_drop : (n : ℕ) (gs : List Grid) → take n gs ++ drop n gs ≡ gs

@@ -1,14 +1,11 @@
 -- Terms and classes that fit together.
-use Rattle.std.proofs.Common.{◌≡◌, ◌∙◌, refl, sym, ap, subst, ℕ, zero, suc, ◌+◌, ◌<◌, ◌≤◌, ◌^◌, ◌⊎◌, inl, inr, ⊎_elim, Bool, true, false, List, [], ◌∷◌, Option, Some, None, All, length, get_or, slice_index_or, Contains, arith}
+use Rattle.std.proofs.Common.{◌≡◌, ◌∙◌, refl, sym, ap, subst, ℕ, zero, suc, ◌<◌, ⊎_elim, Bool, true, false, List, [], ◌∷◌, Option, Some, None, All, length, slice_index_or, Contains, arith}
 use Rattle.std.specs.List.{count_by}
-use Rattle.rational_time.specs.Multiple.{HasMultipleBelow}
 use Rattle.clock_terms.specs.declared.data.Terms.{Terms}
 use Rattle.clock_terms.specs.declared.data.Classes.{Classes}
-use Rattle.clock_terms.specs.declared.data.Constructor.{Constructor}
-use Rattle.clock_terms.specs.declared.data.Relation.{Relation}
 use Rattle.clock_terms.specs.Position.{Progression}
 use Rattle.clock_terms.specs.Source.{sources_of}
-use Rattle.clock_terms.specs.Clocking.{Said, Held}
+use Rattle.clock_terms.specs.Clocking.{Said}
 use Rattle.clock_spread.specs.Rounds.{first_some, if_clocked, offered, after_round}
 use Rattle.sub_clock_solve.specs.Solving.{said_of, TakesTooFine, IsSolution}
 use Rattle.sub_clock_solve.specs.Standing.{HasClass, FitTogether, HaveClasses}

@@ -1,6 +1,6 @@
 -- The kept clocks stand at the places of their classes.
-use Rattle.std.proofs.Common.{◌≡◌, ◌∙◌, refl, sym, ap, subst, ℕ, zero, suc, ◌+◌, ◌<◌, ◌≤◌, Bool, true, false, List, [], ◌∷◌, ◌++◌, length, take, get_or, slice_index_or, slice_get, Option, Some, None, arith, cond}
-use Rattle.std.specs.List.{count_by, sum_by}
+use Rattle.std.proofs.Common.{◌≡◌, ◌∙◌, refl, sym, ap, ℕ, zero, suc, ◌+◌, ◌<◌, Bool, true, false, List, [], ◌∷◌, ◌++◌, length, take, get_or, slice_get, Some, arith, cond}
+use Rattle.std.specs.List.{count_by}
 use Rattle.std.proofs.lemmas.List.Sums.{sum_by-cons}
 use Rattle.std.proofs.lemmas.List.{append-nil, append_assoc}
 use Rattle.clock_terms.specs.declared.data.Grid.{Grid}

@@ -1,6 +1,6 @@
 -- Constructors and the clocks that they give.
-use Rattle.std.proofs.Common.{◌≡◌, ◌∙◌, refl, sym, ap, subst, ℕ, zero, suc, ◌+◌, ◌*◌, ◌^◌, ◌<◌, ◌≤◌, Bool, true, false, List, [], ◌∷◌, ◌++◌, Option, Some, None, All, length, get_or, drop, arith, le_of_mul-le-mul_right, mul-le-mul_left}
-use Rattle.std.specs.Int.{◌∣◌, IsGcd}
+use Rattle.std.proofs.Common.{◌≡◌, ◌∙◌, refl, sym, ap, subst, ℕ, zero, suc, ◌+◌, ◌*◌, ◌^◌, ◌<◌, ◌≤◌, false, List, [], ◌∷◌, ◌++◌, Some, None, All, length, get_or, drop, arith, le_of_mul-le-mul_right, mul-le-mul_left}
+use Rattle.std.specs.Int.{IsGcd}
 use Rattle.std.proofs.Math.Nat.{le_of_dvd}
 use Rattle.std.proofs.lemmas.List.{append-nil, append_assoc, drop_more, drop_all}
 use Rattle.std.proofs.lemmas.List.Elements.{All-head, All-tail}
@@ -8,40 +8,13 @@ use Rattle.rational_time.specs.declared.ratio.Ratio.{Ratio}
 use Rattle.rational_time.specs.Fraction.{IsFraction, ArePartsBelow}
 use Rattle.rational_time.proofs.Fractions.{IsGcd-ratio}
 use Rattle.rational_time.proofs.Divisors.{dvd_from, dvd_of_coprime}
-use Rattle.flat_model.specs.declared.expression.Expr.{Expr}
-use Rattle.flat_model.specs.declared.clock.Conversion.{Conversion}
-use Rattle.flat_model.specs.declared.clock.ClockExpr.{ClockExpr}
-use Rattle.flat_model.specs.declared.clock.ClockExpr.TheVariants as clock
-use Rattle.flat_model.specs.declared.clock.ClockExpr.TheOpen.{ClockExpr-F, Expr-F}
-use Rattle.flat_model.specs.declared.clock.ClockExpr.TheViews.{roll-ClockExpr}
-use Rattle.flat_model.specs.declared.clock.ClockExpr.TheFolds.{fold-Expr, fold-roll-ClockExpr, map-ClockExpr}
 use Rattle.clock_terms.specs.declared.data.Constructor.{Constructor}
 use Rattle.clock_terms.specs.declared.data.Grid.{Grid}
-use Rattle.clock_terms.specs.Position.{Position, IsAt, at_ratio, at_signed, whole, Progression, IsProper, AreSame, progression_of_grid, IsFine}
-use Rattle.clock_terms.specs.Source.{Kind, Inferred, Every, AtSite, Other, kind_of, kind_of_level, Source, every, at_site, source_before, sources_from, sources_of}
+use Rattle.clock_terms.specs.Position.{IsProper, IsFine}
+use Rattle.clock_terms.specs.Source.{Kind, Inferred, Every, AtSite, Other, kind_of, Source, every, at_site, source_before, sources_from, sources_of}
 use Rattle.sub_clock_solve.specs.declared.given.Given.{Given}
-use Rattle.sub_clock_solve.specs.Given.{IsGridOf, IsSource, AreSources, GivesNone, GivesGrid, AddsSource, Steps, IsStep}
+use Rattle.sub_clock_solve.specs.Given.{IsGridOf, IsSource, AreSources, GivesNone, GivesGrid, Steps, IsStep}
 use Rattle.sub_clock_solve.specs.Standing.{IsGivenKind, IsGivenClock}
-
--- ---- what kind an expression is
-kind_roll : (y : ClockExpr-F ClockExpr Expr) → kind_of (roll-ClockExpr y) ≡ kind_of_level (map-ClockExpr ClockExpr Expr Kind (Unit {0}) kind_of (fold-Expr Kind (Unit {0}) kind_of_level (λ _. tt)) y)
-unfolding kind_of
-kind_roll y = fold-roll-ClockExpr Kind (Unit {0}) kind_of_level (λ _. tt) y
-
-pub kind-Name : (x : ℕ) → kind_of (clock.Name x) ≡ Other
-kind-Name x = ap (λ e. kind_of e) (sym (clock.rolls-Name x)) ∙ kind_roll (ClockExpr-F.Name x)
-
-pub kind-Inferred : kind_of clock.Inferred ≡ Inferred
-kind-Inferred = ap (λ e. kind_of e) (sym clock.rolls-Inferred) ∙ kind_roll ClockExpr-F.Inferred
-
-pub kind-Rational : (n r : ℕ) → kind_of (clock.Rational n r) ≡ Every n r
-kind-Rational n r = ap (λ e. kind_of e) (sym (clock.rolls-Rational n r)) ∙ kind_roll (ClockExpr-F.Rational n r)
-
-pub kind-Event : (condition : Expr) → kind_of (clock.Event condition) ≡ AtSite
-kind-Event condition = ap (λ e. kind_of e) (sym (clock.rolls-Event condition)) ∙ kind_roll (ClockExpr-F.Event condition)
-
-pub kind-Convert : (by : Conversion) (x : ℕ) → kind_of (clock.Convert by x) ≡ Other
-kind-Convert by x = ap (λ e. kind_of e) (sym (clock.rolls-Convert by x)) ∙ kind_roll (ClockExpr-F.«ClockExpr::Convert» by x)
 
 -- ---- the parts of a fraction are not above those that it is made of
 den_most : (r : Ratio) (n d : ℕ) → 0 < d → IsFraction r n d → r.den ≤ d

@@ -1,6 +1,6 @@
 -- Least common denominators, one number after another.
-use Rattle.std.proofs.Common.{◌≡◌, ◌∙◌, refl, sym, ap, subst, ℕ, zero, suc, ◌+◌, ◌-◌, ◌*◌, ◌^◌, ◌<◌, ◌≤◌, ◌↔◌, ◌⊎◌, inl, inr, ⊎_elim, List, [], ◌∷◌, ◌++◌, Option, Some, None, MatchOption, arith, mul-pos, le_of_mul-le-mul_right, le_of_lt}
-use Rattle.std.specs.Int.{◌∣◌, abs_diff}
+use Rattle.std.proofs.Common.{◌≡◌, sym, subst, ℕ, ◌*◌, ◌^◌, ◌<◌, ◌≤◌, ◌↔◌, List, [], ◌∷◌, ◌++◌, Option, Some, None, MatchOption, arith, mul-pos}
+use Rattle.std.specs.Int.{◌∣◌}
 use Rattle.std.proofs.Math.Nat.{le_of_dvd, dvd_trans, pos_of_dvd_of_pos, one-dvd, dvd-mul_left, dvd-mul_right}
 use Rattle.std.proofs.lemmas.List.{append_assoc}
 use Rattle.rational_time.specs.Multiple.{IsLcm, AllDivide, HasMultipleBelow}

@@ -1,25 +1,22 @@
 -- Terms and classes have one answer.
-use Rattle.std.proofs.Common.{◌≡◌, ◌≢◌, ◌∙◌, refl, sym, ap, ap₂, subst, ℕ, zero, suc, ◌+◌, ◌*◌, ◌<◌, ◌≤◌, ◌^◌, ◌⊎◌, inl, inr, ⊎_elim, Bool, true, false, List, [], ◌∷◌, Option, Some, None, Result, Ok, Err, All, length, take, drop, get_or, slice_index_or, slice_get, arith}
+use Rattle.std.proofs.Common.{◌≡◌, ◌∙◌, refl, sym, ap, ap₂, subst, ℕ, zero, suc, ◌+◌, ◌*◌, ◌<◌, ◌^◌, inl, inr, Bool, true, false, List, [], ◌∷◌, Option, Some, None, Result, Ok, Err, length, take, drop, slice_index_or, slice_get, arith}
 use Rattle.std.proofs.Math.Path.{fun_ext}
-use Rattle.std.proofs.lemmas.List.{ext_get_or}
-use Rattle.std.proofs.lemmas.Option.{get_or_from_slice_get}
-use Rattle.std.specs.List.{count_by}
 use Rattle.rational_time.specs.declared.ratio.Ratio.{Ratio}
 use Rattle.flat_model.proofs.InstantsLeft.{same_ratio}
 use Rattle.clock_terms.specs.declared.data.Terms.{Terms}
 use Rattle.clock_terms.specs.declared.data.Classes.{Classes}
 use Rattle.clock_terms.specs.declared.data.Grid.{Grid}
-use Rattle.clock_terms.specs.Position.{Position, IsAt, at_ratio, at_signed, Progression, IsProper, AreSame, progression_of_grid}
+use Rattle.clock_terms.specs.Position.{Progression, IsProper, AreSame, progression_of_grid}
 use Rattle.clock_terms.specs.Clocking.{Said, Held}
 use Rattle.clock_terms.proofs.Progressions.{same_sym, same_trans}
-use Rattle.clock_spread.specs.Least.{IsLeast}
-use Rattle.clock_spread.specs.Rounds.{Gets, AreGotten, after_round}
-use Rattle.clock_spread.proofs.Limits.{same_signs, same_sizes, grid_proper}
+use Rattle.clock_terms.specs.Least.{IsLeast}
+use Rattle.clock_spread.specs.Rounds.{AreGotten, after_round}
+use Rattle.clock_spread.proofs.Limits.{same_signs, same_sizes}
 use Rattle.clock_spread.proofs.Spreading.{gets_once}
 use Rattle.sub_clock_solve.specs.declared.kinds.SolveEnd.{SolveEnd}
 use Rattle.sub_clock_solve.specs.declared.kinds.SolveEnd.TheVariants.{Unknown, TooFine, Conflict, NoMemory}
 use Rattle.sub_clock_solve.specs.Grain.{denominators, IsGrainPast}
-use Rattle.sub_clock_solve.specs.Solving.{said_of, GetsNone, place_of, StandsFor, AreGrids, AreSolved, IsFirstTooFine, IsTooFineAt, IsConflictAt, IsSolution, FailsAt, NoneFails, Solves, TakesTooFine, IsAnyTooFine}
+use Rattle.sub_clock_solve.specs.Solving.{said_of, GetsNone, place_of, StandsFor, AreGrids, AreSolved, IsTooFineAt, FailsAt, Solves, TakesTooFine, IsAnyTooFine}
 use Rattle.sub_clock_solve.specs.Laws.{IsNoMemory}
 use Rattle.sub_clock_solve.specs.Standing.{FitTogether}
 use Rattle.sub_clock_solve.proofs.Gathers.{count, count_true, count_false, den_append}

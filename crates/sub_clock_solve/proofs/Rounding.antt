@@ -1,24 +1,20 @@
 -- What is kept after all rounds, and the clocks of the rounds.
-use Rattle.std.proofs.Common.{◌≡◌, ◌≢◌, ◌∙◌, refl, sym, ap, subst, ℕ, zero, suc, ◌+◌, ◌-◌, ◌<◌, ◌≤◌, ◌^◌, ◌⊎◌, inl, inr, ⊎_elim, Bool, true, false, ◌==◌, if◌then◌else◌, List, [], ◌∷◌, Option, Some, None, arith, All, length, slice_index_or}
-use Rattle.std.proofs.Math.Path.{fun_ext}
+use Rattle.std.proofs.Common.{◌≡◌, ◌∙◌, refl, sym, ap, subst, ℕ, zero, suc, ◌+◌, ◌-◌, ◌<◌, ◌≤◌, ◌⊎◌, inl, inr, ⊎_elim, Bool, true, false, ◌==◌, if◌then◌else◌, List, [], ◌∷◌, Option, Some, None, arith, All}
 use Rattle.std.proofs.lemmas.List.Elements.{All-head, All-tail}
 use Rattle.clock_terms.specs.declared.data.Terms.{Terms}
 use Rattle.clock_terms.specs.declared.data.Classes.{Classes}
-use Rattle.clock_terms.specs.declared.data.Grid.{Grid}
-use Rattle.clock_terms.specs.Position.{Progression, IsProper, IsTooFine, AreSame, progression_of_grid}
+use Rattle.clock_terms.specs.Position.{Progression, IsProper}
 use Rattle.clock_terms.specs.Source.{Source, sources_of}
 use Rattle.clock_terms.specs.Clocking.{Said, Held}
 use Rattle.clock_spread.specs.declared.offers.Found.{Found}
 use Rattle.clock_spread.specs.declared.offers.Found.TheVariants.{Not, Kept, Lost}
-use Rattle.clock_spread.specs.Found.{IsFineFound, Agrees, Agree, NoneLost, class_in, found_of}
+use Rattle.clock_spread.specs.Found.{Agrees, Agree, class_in, found_of}
 use Rattle.clock_spread.specs.Queue.{marked}
-use Rattle.clock_spread.specs.Least.{IsLeast, IsLeastOf}
 use Rattle.clock_spread.specs.Rounds.{first_some, if_clocked, seeded, offered, after_round, Gets, AreGotten}
-use Rattle.clock_spread.specs.Turn.{said_by, following, after_more, AreProper, Newly, NewlyTooFine, IsFirstLost, Settles}
-use Rattle.clock_spread.proofs.Limits.{fine_not_too_fine}
+use Rattle.clock_spread.specs.Turn.{said_by, following, after_more, AreProper, NewlyTooFine, IsFirstLost}
 use Rattle.clock_spread.proofs.Losing.{more_proper}
 use Rattle.clock_spread.proofs.Spreading.{settled, stays}
-use Rattle.sub_clock_solve.specs.Solving.{said_of, GetsNone, Takes, TakesTooFine, IsAnyTooFine, IsFirstTooFine, NoneTooFine}
+use Rattle.sub_clock_solve.specs.Solving.{said_of, GetsNone, TakesTooFine, IsAnyTooFine, IsFirstTooFine, NoneTooFine}
 use Rattle.sub_clock_solve.specs.Seeding.{start_of}
 use Rattle.sub_clock_solve.specs.Spreading.{IsSpread}
 

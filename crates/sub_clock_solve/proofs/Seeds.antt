@@ -1,20 +1,18 @@
 -- The clocks of round 0, constructor by constructor.
-use Rattle.std.proofs.Common.{◌≡◌, ◌≢◌, ◌∙◌, refl, sym, ap, subst, ℕ, zero, suc, ◌+◌, ◌<◌, ◌≤◌, ◌^◌, ◌==◌, Bool, true, false, if◌then◌else◌, List, [], ◌∷◌, ◌++◌, Option, Some, None, All, length, take, get_or, slice_index_or, arith}
+use Rattle.std.proofs.Common.{◌≡◌, ◌≢◌, ◌∙◌, refl, sym, ap, subst, ℕ, zero, suc, ◌+◌, ◌<◌, ◌≤◌, ◌^◌, ◌==◌, Bool, true, false, if◌then◌else◌, List, [], ◌∷◌, ◌++◌, Option, Some, None, All, length, take, get_or, arith}
 use Rattle.std.proofs.lemmas.List.{get_or_default, take_more, take_all}
 use Rattle.std.proofs.lemmas.List.Elements.{All-tail}
 use Rattle.clock_terms.specs.declared.data.Grid.{Grid}
-use Rattle.clock_terms.specs.Position.{Progression, AreSame, progression_of_grid, IsFine, IsProper, IsTooFine}
+use Rattle.clock_terms.specs.Position.{Progression, IsFine, IsProper, IsTooFine}
 use Rattle.clock_terms.specs.Source.{Source}
-use Rattle.clock_terms.specs.Clocking.{Held}
 use Rattle.clock_spread.specs.declared.offers.Found.{Found}
 use Rattle.clock_spread.specs.declared.offers.Found.TheVariants.{Not, Kept, Lost}
 use Rattle.clock_spread.specs.Found.{IsFineFound, Agrees, Agree, NoneLost, class_in, found_of}
 use Rattle.clock_spread.specs.Queue.{marked}
 use Rattle.clock_spread.specs.Rounds.{first_some, if_clocked, seeded}
-use Rattle.clock_spread.specs.Turn.{AreProper}
 use Rattle.clock_spread.proofs.Losing.{kept_fine}
 use Rattle.sub_clock_solve.specs.declared.given.Given.{Given}
-use Rattle.sub_clock_solve.specs.Given.{IsGridOf, IsSource, AreSources}
+use Rattle.sub_clock_solve.specs.Given.{IsGridOf, AreSources}
 use Rattle.sub_clock_solve.specs.Seeding.{seeded_at, start_of}
 use Rattle.sub_clock_solve.proofs.Giving.{source_at, sources_length}
 use Rattle.sub_clock_solve.proofs.Rounding.{start_proper}

@@ -6,7 +6,7 @@ use Rattle.clock_terms.specs.Asked.{IsGiven}
 use Rattle.clock_terms.specs.Source.{Source}
 use Rattle.clock_terms.specs.Clocking.{Held, SourceHolds, RelationHolds}
 use Rattle.clock_spread.specs.declared.offers.Found.{Found}
-use Rattle.clock_spread.specs.declared.offers.Found.TheVariants.{Not, Kept, Lost}
+use Rattle.clock_spread.specs.declared.offers.Found.TheVariants.{Kept}
 use Rattle.clock_spread.specs.Turn.{said_by}
 
 abbrev pub Differs : List ℕ → Held → Source → Type 0

@@ -1,8 +1,8 @@
 -- The kept clocks, one after another.
-use Rattle.std.specs.Prelude.{ℕ, Bool, true, false, List, [], ◌∷◌, ◌++◌}
+use Rattle.std.specs.Prelude.{Bool, true, List, [], ◌∷◌, ◌++◌}
 use Rattle.clock_terms.specs.declared.data.Grid.{Grid}
 use Rattle.clock_spread.specs.declared.offers.Found.{Found}
-use Rattle.clock_spread.specs.declared.offers.Found.TheVariants.{Not, Kept, Lost}
+use Rattle.clock_spread.specs.declared.offers.Found.TheVariants.{Kept}
 
 abbrev pub kept_of : Bool → Found → List Grid
 kept_of true (Kept g) = g ∷ []

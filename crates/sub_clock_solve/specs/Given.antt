@@ -1,5 +1,5 @@
 -- What is kept of constructors.
-use Rattle.std.specs.Prelude.{◌≡◌, ℕ, ◌+◌, ◌^◌, ◌<◌, List, [], ◌∷◌, ◌++◌, Option, Some, None}
+use Rattle.std.specs.Prelude.{◌≡◌, ℕ, ◌+◌, ◌^◌, List, [], ◌∷◌, ◌++◌, Some, None}
 use Rattle.clock_terms.specs.declared.data.Constructor.{Constructor}
 use Rattle.clock_terms.specs.declared.data.Grid.{Grid}
 use Rattle.clock_terms.specs.Position.{Progression, AreSame, progression_of_grid, IsFine}

@@ -1,11 +1,11 @@
 -- Laws of clocks that are solved.
-use Rattle.std.specs.Prelude.{◌≡◌, ℕ, List, Option, Some, None, Result, Ok, Err, All, true, ⊤}
+use Rattle.std.specs.Prelude.{◌≡◌, ℕ, List, Some, Result, Err, All}
 use Rattle.clock_terms.specs.declared.data.Terms.{Terms}
 use Rattle.clock_terms.specs.declared.data.Classes.{Classes}
 use Rattle.clock_terms.specs.declared.data.Grid.{Grid}
 use Rattle.clock_terms.specs.Position.{Progression, IsProper, AreSame}
 use Rattle.clock_terms.specs.Clocking.{Said, Held, IsClocking}
-use Rattle.clock_spread.specs.Rounds.{Gets, AllGet, AreGotten}
+use Rattle.clock_spread.specs.Rounds.{Gets, AreGotten}
 use Rattle.sub_clock_solve.specs.declared.kinds.SolveEnd.{SolveEnd}
 use Rattle.sub_clock_solve.specs.declared.kinds.SolveEnd.TheVariants.{NoMemory}
 use Rattle.sub_clock_solve.specs.Solving.{FailsAt, HasNoClocking, Solves}

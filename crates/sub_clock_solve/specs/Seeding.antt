@@ -1,10 +1,10 @@
 -- The clocks of round 0.
-use Rattle.std.specs.Prelude.{ℕ, Bool, true, false, List, Option}
+use Rattle.std.specs.Prelude.{ℕ, Bool, true, List}
 use Rattle.clock_terms.specs.declared.data.Grid.{Grid}
 use Rattle.clock_terms.specs.Source.{Source}
 use Rattle.clock_terms.specs.Clocking.{Held}
 use Rattle.clock_spread.specs.declared.offers.Found.{Found}
-use Rattle.clock_spread.specs.declared.offers.Found.TheVariants.{Not, Kept, Lost}
+use Rattle.clock_spread.specs.declared.offers.Found.TheVariants.{Not, Kept}
 use Rattle.clock_spread.specs.Found.{class_in}
 use Rattle.clock_spread.specs.Queue.{marked}
 use Rattle.clock_spread.specs.Rounds.{if_clocked, seeded}

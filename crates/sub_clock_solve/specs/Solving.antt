@@ -1,16 +1,16 @@
 -- What is answered for the terms of a model: the clocks of the rounds, or the first rule of them that is broken. This project's own.
-use Rattle.std.specs.Prelude.{◌≡◌, ℕ, zero, suc, ◌<◌, ◌^◌, ◌⊎◌, Bool, true, false, List, length, take, Option, Some, None, Result, Ok, Err, slice_get, slice_index_or, count_by, ⊤}
+use Rattle.std.specs.Prelude.{◌≡◌, ℕ, zero, suc, ◌^◌, ◌⊎◌, true, false, List, length, take, Some, None, Result, Ok, Err, slice_get, slice_index_or, count_by, ⊤}
 use Rattle.rational_time.specs.Multiple.{HasMultipleBelow}
 use Rattle.clock_terms.specs.declared.data.Terms.{Terms}
 use Rattle.clock_terms.specs.declared.data.Classes.{Classes}
-use Rattle.clock_terms.specs.declared.data.Relation.{Relation}
 use Rattle.clock_terms.specs.declared.data.Grid.{Grid}
 use Rattle.clock_terms.specs.Position.{Progression, AreSame, progression_of_grid, IsTooFine, IsFine}
 use Rattle.clock_terms.specs.Asked.{IsGiven}
-use Rattle.clock_terms.specs.Source.{Source, sources_of}
+use Rattle.clock_terms.specs.Source.{sources_of}
 use Rattle.clock_terms.specs.Clocking.{Said, Held, SourceHolds, RelationHolds, IsClocking}
 use Rattle.clock_spread.specs.Rounds.{after_round, Gets, AreGotten}
-use Rattle.clock_spread.specs.Least.{IsLeast, IsNumberIn}
+use Rattle.clock_terms.specs.Least.{IsLeast}
+use Rattle.clock_spread.specs.Least.{IsNumberIn}
 use Rattle.sub_clock_solve.specs.declared.kinds.SolveEnd.{SolveEnd}
 use Rattle.sub_clock_solve.specs.declared.kinds.SolveEnd.TheVariants.{Unknown, TooFine, Conflict, NoMemory}
 use Rattle.sub_clock_solve.specs.Grain.{denominators, IsGrainPast}

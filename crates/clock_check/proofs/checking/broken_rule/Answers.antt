@@ -1,5 +1,5 @@
-use Rattle.std.proofs.Common.{rules, ◌≡◌, ◌∙◌, sym, subst}
-use Rattle.clock_check.specs.Checking.{HasNoFactor, HaveFactors, StartInTime, AreShiftsWhole}
+use Rattle.std.proofs.Common.{rules, ◌≡◌}
+use Rattle.clock_check.specs.Checking.{HaveFactors, StartInTime, AreShiftsWhole}
 use Rattle.clock_check.proofs.checking.broken_rule.Goals as goal
 
 pub missing_factor-requires-clause-ends : goal.missing_factor-requires-clause-ends

@@ -1,7 +1,5 @@
-use Rattle.std.proofs.Common.{rules, arith, ◌≡◌, ◌∙◌, ℕ, true, false, Some, sym, ap, subst, length, take, slice_get, slice_index_or, List, Option}
-use Rattle.std.specs.List.{count_by}
+use Rattle.std.proofs.Common.{arith, ◌∙◌, sym, ap, subst, length}
 use Rattle.clock_check.specs.ClockingOf.{AreSites}
-use Rattle.clock_check.specs.Making.{AreNumbersOfNames, node_numbers}
 use Rattle.clock_check.proofs.Conditions.{node_count}
 use Rattle.clock_check.proofs.Parting.{names_at, nodes_at, parted_count, parted_each}
 use Rattle.clock_check.proofs.checking.made.Goals as goal

@@ -1,5 +1,4 @@
-use Rattle.std.proofs.Common.{rules, arith, ◌≡◌, ◌∙◌, ◌↔◌, ◌<◌, ◌≤◌, ◌+◌, ℕ, true, false, Some, sym, ap, subst, length, take, get_or, slice_index_or}
-use Rattle.std.proofs.lemmas.List.{take_all}
+use Rattle.std.proofs.Common.{rules, ◌≡◌, ◌↔◌, ◌<◌, ◌+◌, ℕ, true, false, sym, subst, length, take, slice_index_or}
 use Rattle.clock_spread.specs.Least.{IsLeastOf}
 use Rattle.clock_check.specs.Holding.{HasHold, IsHoldingAt}
 use Rattle.clock_check.proofs.Marks.{holding_more}

@@ -1,6 +1,6 @@
-use Rattle.std.proofs.Common.{rules, arith, ◌≡◌, ◌∙◌, ◌<◌, ◌≤◌, sym, subst, length, take}
+use Rattle.std.proofs.Common.{rules, arith, ◌∙◌, ◌<◌, ◌≤◌, subst, length}
 use Rattle.std.proofs.lemmas.List.{take_all}
-use Rattle.clock_check.proofs.Marks.{AreMarked, marked_more, marked_none}
+use Rattle.clock_check.proofs.Marks.{AreMarked, marked_more}
 use Rattle.clock_check.proofs.condition.mark.Goals as goal
 
 pub loop-node-preserved : goal.loop-node-preserved

@@ -1,4 +1,4 @@
-use Rattle.std.proofs.Common.{rules, arith, ◌≡◌, ◌∙◌, ◌*◌}
+use Rattle.std.proofs.Common.{arith}
 use Rattle.clock_check.proofs.Factors.{multiple_law}
 use Rattle.clock_check.proofs.factor.is_multiple.Goals as goal
 

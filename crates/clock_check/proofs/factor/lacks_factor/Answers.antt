@@ -1,7 +1,7 @@
-use Rattle.std.proofs.Common.{rules, ◌≡◌, ◌∙◌, ◌^◌, sym, Contains}
+use Rattle.std.proofs.Common.{rules, ◌∙◌, ◌^◌, sym}
 use Rattle.std.proofs.lemmas.List.Elements.{All-contains}
 use Rattle.clock_terms.specs.Position.{IsFine}
-use Rattle.clock_check.proofs.Lacking.{lacks_law, none_result, none_argument}
+use Rattle.clock_check.proofs.Lacking.{lacks_law}
 use Rattle.clock_check.proofs.factor.lacks_factor.Goals as goal
 
 pub fits-requires-clause-derived : goal.fits-requires-clause-derived

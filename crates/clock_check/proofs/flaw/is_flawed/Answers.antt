@@ -1,4 +1,4 @@
-use Rattle.std.proofs.Common.{◌≡◌, ◌∙◌, Some, sym, subst}
+use Rattle.std.proofs.Common.{◌∙◌, sym, subst}
 use Rattle.clock_check.specs.Flaws.{HasFlaw}
 use Rattle.clock_check.proofs.Counting.{same_grid}
 use Rattle.clock_check.proofs.flaw.is_flawed.Goals as goal

@@ -1,4 +1,4 @@
-use Rattle.std.proofs.Common.{rules, ◌≡◌, ◌∙◌, sym, None, Some, slice_get}
+use Rattle.std.proofs.Common.{◌∙◌, sym, None, Some}
 use Rattle.clock_check.proofs.Counting.{grid_of_number, some_contains}
 use Rattle.clock_check.proofs.numbers.grid_of_class.Goals as goal
 

@@ -1,4 +1,4 @@
-use Rattle.std.proofs.Common.{rules, arith, ◌≡◌, ◌∙◌, ◌<◌, ◌+◌, ◌++◌, ◌∷◌, [], true, false, length, sym}
+use Rattle.std.proofs.Common.{rules, ◌<◌, length}
 use Rattle.clock_check.proofs.Placing.{partition_more, partition_same}
 use Rattle.clock_check.proofs.parts.partitions.Goals as goal
 use Rattle.clock_check.proofs.parts.partitions.Goals.{then-is_clocked+in_ok-push, else-is_clocked}

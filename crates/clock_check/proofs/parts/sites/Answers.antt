@@ -1,4 +1,4 @@
-use Rattle.std.proofs.Common.{rules, arith, ◌≡◌, ◌<◌, ◌≤◌, length}
+use Rattle.std.proofs.Common.{rules, ◌<◌, length}
 use Rattle.clock_check.proofs.Sites.{site_step, sites_end}
 use Rattle.clock_check.proofs.parts.sites.Goals as goal
 

@@ -1,4 +1,4 @@
-use Rattle.std.proofs.Common.{rules, ◌≡◌, Option, refl, subst, sym}
+use Rattle.std.proofs.Common.{refl, subst}
 use Rattle.clock_spread.specs.Found.{Agrees}
 use Rattle.clock_spread.proofs.Spreading.{kept_onward, lost_onward}
 use Rattle.clock_spread.proofs.Losing.{lost_exact}

@@ -1,4 +1,4 @@
-use Rattle.std.proofs.Common.{rules, ◌≡◌, ◌∙◌, ◌<◌, length, sym}
+use Rattle.std.proofs.Common.{rules, ◌≡◌, ◌∙◌, ◌<◌, length}
 use Rattle.clock_spread.specs.declared.offers.Found.TheVariants.{Not}
 use Rattle.clock_spread.specs.Found.{class_in}
 use Rattle.clock_spread.proofs.Spreading.{take_more}

@@ -1,6 +1,5 @@
-use Rattle.std.proofs.Common.{rules, ◌≡◌, ◌^◌, refl, true, false}
-use Rattle.clock_terms.specs.Position.{progression_of_grid, AreSame, IsFine}
-use Rattle.clock_spread.proofs.Limits.{grids_same, grids_signs}
+use Rattle.std.proofs.Common.{rules, ◌≡◌, refl}
+use Rattle.clock_spread.proofs.Limits.{grids_same}
 use Rattle.clock_spread.proofs.onward.are_same.Goals as goal
 
 pub returns-then-is_same_ratio : goal.returns-then-is_same_ratio

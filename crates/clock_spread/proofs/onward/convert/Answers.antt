@@ -1,4 +1,4 @@
-use Rattle.std.proofs.Common.{rules, ◌≡◌, ◌^◌, refl}
+use Rattle.std.proofs.Common.{rules, ◌^◌}
 use Rattle.clock_terms.specs.Position.{progression_of_grid, AreSame, IsFine}
 use Rattle.clock_terms.specs.Asked.{converted}
 use Rattle.clock_terms.proofs.Conversions.{converted_proper}

@@ -1,5 +1,5 @@
-use Rattle.std.proofs.Common.{rules, ◌≡◌, ◌^◌, refl}
-use Rattle.clock_terms.specs.Position.{progression_of_grid, AreSame, IsFine}
+use Rattle.std.proofs.Common.{refl}
+use Rattle.clock_terms.specs.Position.{progression_of_grid}
 use Rattle.clock_terms.specs.Asked.{converted}
 use Rattle.clock_terms.proofs.Progressions.{same_sym, same_trans}
 use Rattle.clock_terms.proofs.Conversions.{converted_proper, asks_converted, converted_asks}

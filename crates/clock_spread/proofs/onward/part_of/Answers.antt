@@ -1,4 +1,4 @@
-use Rattle.std.proofs.Common.{rules, arith, refl, mul-pos, ◌≡◌, ◌*◌, ◌^◌, false}
+use Rattle.std.proofs.Common.{rules, arith, refl, mul-pos, ◌^◌, false}
 use Rattle.clock_terms.specs.Position.{IsAt, at_ratio, at_signed, part}
 use Rattle.clock_spread.proofs.Limits.{not_past, past}
 use Rattle.clock_spread.proofs.onward.part_of.Goals as goal

@@ -1,6 +1,5 @@
-use Rattle.std.proofs.Common.{rules, ◌≡◌, ◌∙◌, ◌<◌, length, get_or, slice_index_or, [], subst, sym, List}
+use Rattle.std.proofs.Common.{rules, ◌≡◌, ◌∙◌, ◌<◌, length, get_or, slice_index_or, [], subst}
 use Rattle.std.proofs.lemmas.List.{get_or_default}
-use Rattle.clock_terms.specs.declared.data.Relation.{Relation}
 use Rattle.clock_spread.specs.Found.{class_in}
 use Rattle.clock_spread.specs.Queue.{Queues, IsOtherEnd}
 use Rattle.clock_spread.proofs.Queueing.{next_step}

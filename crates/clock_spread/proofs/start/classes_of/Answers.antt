@@ -1,4 +1,4 @@
-use Rattle.std.proofs.Common.{rules, arith, ◌≡◌, ◌∙◌, ◌<◌, ◌≤◌, ◌↔◌, ◌+◌, ◌++◌, ◌∷◌, [], ℕ, true, false, sym, subst, length, Contains, slice_index_or}
+use Rattle.std.proofs.Common.{rules, arith, ◌≡◌, ◌<◌, ◌≤◌, ◌↔◌, ◌+◌, ◌++◌, ◌∷◌, [], ℕ, true, false, sym, subst, length, Contains}
 use Rattle.clock_spread.specs.Queue.{marked}
 use Rattle.clock_spread.proofs.Starting.{marked_within, one_marked, none_marked}
 use Rattle.clock_spread.proofs.start.classes_of.Goals as goal

@@ -1,9 +1,7 @@
-use Rattle.std.proofs.Common.{rules, arith, ◌≡◌, ◌≢◌, ◌↔◌, ◌∙◌, ◌<◌, ◌≤◌, ℕ, Contains, true, [], filter, sym, subst, length, get_or, slice_index_or, All, List}
+use Rattle.std.proofs.Common.{rules, arith, ◌≡◌, ◌≢◌, ◌↔◌, ◌∙◌, ◌<◌, ℕ, Contains, true, [], filter, sym, subst, length, slice_index_or, All}
 use Rattle.std.proofs.lemmas.List.{get_or_default}
 use Rattle.std.proofs.lemmas.Result.{IfOk-weaker}
 use Rattle.std.proofs.lemmas.List.Elements.{All-filter, filter_passes}
-use Rattle.clock_terms.specs.declared.data.Relation.{Relation}
-use Rattle.clock_terms.specs.Clocking.{Held}
 use Rattle.clock_spread.specs.declared.offers.Found.TheVariants.{Not}
 use Rattle.clock_spread.specs.Found.{class_in, found_of, HasEnds, touches}
 use Rattle.clock_spread.specs.Queue.{marked}

@@ -2,7 +2,7 @@ use Rattle.std.proofs.Common.{rules, arith, ◌≡◌, ◌∙◌, ◌≤◌, ◌
 use Rattle.std.proofs.lemmas.List.{get_or_default, take_all}
 use Rattle.clock_spread.specs.declared.offers.Found.TheVariants.{Not, Lost}
 use Rattle.clock_spread.specs.Found.{found_of}
-use Rattle.clock_spread.specs.Least.{IsLeastOf, IsNumberIn, lesser_of}
+use Rattle.clock_spread.specs.Least.{IsLeastOf, IsNumberIn}
 use Rattle.clock_spread.proofs.Leasts.{least_more}
 use Rattle.clock_spread.proofs.turn.least_lost.Goals as goal
 

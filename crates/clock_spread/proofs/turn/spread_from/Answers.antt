@@ -1,4 +1,4 @@
-use Rattle.std.proofs.Common.{rules, arith, ◌≡◌, ◌∙◌, length, subst, sym, suc, None}
+use Rattle.std.proofs.Common.{rules, ◌≡◌, ◌∙◌, length, subst, sym, suc, None}
 use Rattle.clock_spread.specs.Turn.{Stands, said_by, after_more, AreLost, IsNextLost}
 use Rattle.clock_spread.proofs.Turning.{settles}
 use Rattle.clock_spread.proofs.Losing.{more_proper, first_more, none_more}

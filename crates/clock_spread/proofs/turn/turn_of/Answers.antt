@@ -1,6 +1,6 @@
-use Rattle.std.proofs.Common.{rules, arith, ◌≡◌, ◌<◌, All, length, subst, sym, ap, []}
+use Rattle.std.proofs.Common.{rules, arith, ◌≡◌, ◌<◌, All, length, subst, sym}
 use Rattle.clock_spread.specs.Found.{class_in}
-use Rattle.clock_spread.specs.Queue.{Queues, IsNextTo}
+use Rattle.clock_spread.specs.Queue.{IsNextTo}
 use Rattle.clock_spread.proofs.Turning.{next_below, stands_next, lost_next, fewer_left, fewer_where}
 use Rattle.clock_spread.proofs.turn.turn_of.Goals as goal
 

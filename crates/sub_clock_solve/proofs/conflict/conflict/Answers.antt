@@ -1,4 +1,4 @@
-use Rattle.std.proofs.Common.{◌≡◌, ◌⊎◌, ℕ, sym, subst}
+use Rattle.std.proofs.Common.{◌⊎◌, sym, subst}
 use Rattle.clock_spread.specs.Least.{IsLeastOf, IsNumberIn}
 use Rattle.clock_spread.proofs.Leasts.{least_both, least_left}
 use Rattle.sub_clock_solve.specs.Failing.{Differs, FailsGiven}

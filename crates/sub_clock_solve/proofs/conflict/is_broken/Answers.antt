@@ -1,4 +1,4 @@
-use Rattle.std.proofs.Common.{rules, ◌≡◌, ◌∙◌, ◌<◌, Some, sym, ap, length}
+use Rattle.std.proofs.Common.{◌≡◌, ◌∙◌, ◌<◌, Some, sym, ap, length}
 use Rattle.std.proofs.lemmas.List.{get_or_default}
 use Rattle.clock_spread.specs.declared.offers.Found.TheVariants.{Not}
 use Rattle.clock_spread.specs.Found.{class_in, found_of}

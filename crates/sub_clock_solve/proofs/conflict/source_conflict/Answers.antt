@@ -1,4 +1,4 @@
-use Rattle.std.proofs.Common.{rules, arith, ◌≡◌, ◌∙◌, ◌+◌, ◌<◌, ◌≤◌, refl, sym, ap, subst, length, take, get_or}
+use Rattle.std.proofs.Common.{rules, arith, ◌+◌, ◌<◌, ◌≤◌, sym, subst, length, take, get_or}
 use Rattle.std.proofs.lemmas.List.{take_all}
 use Rattle.clock_terms.specs.Source.{Source, every}
 use Rattle.clock_spread.specs.Least.{IsLeastOf, IsNumberIn}

@@ -1,4 +1,4 @@
-use Rattle.std.proofs.Common.{rules, arith, ◌≡◌, ◌∙◌, ◌+◌, ◌<◌, ◌^◌, refl, sym, ap, subst, false, length, take, get_or}
+use Rattle.std.proofs.Common.{rules, arith, ◌≡◌, ◌∙◌, ◌<◌, ◌^◌, refl, sym, subst, false, length, take, get_or}
 use Rattle.std.proofs.lemmas.List.{get_or_default}
 use Rattle.rational_time.specs.Multiple.{HasMultipleBelow}
 use Rattle.clock_spread.specs.declared.offers.Found.TheVariants.{Not}

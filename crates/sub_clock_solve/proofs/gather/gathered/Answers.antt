@@ -1,5 +1,5 @@
-use Rattle.std.proofs.Common.{rules, arith, ◌≡◌, ◌∙◌, ◌+◌, ◌++◌, ◌<◌, refl, sym, ap, ap₂, subst, true, false, [], length, take, get_or}
-use Rattle.std.proofs.lemmas.List.{get_or_default, append-nil}
+use Rattle.std.proofs.Common.{rules, ◌≡◌, ◌∙◌, ◌++◌, ◌<◌, sym, ap, ap₂, true, false, length, take}
+use Rattle.std.proofs.lemmas.List.{get_or_default}
 use Rattle.clock_spread.specs.declared.offers.Found.TheVariants.{Not}
 use Rattle.clock_spread.specs.Found.{found_of}
 use Rattle.clock_spread.specs.Queue.{marked}

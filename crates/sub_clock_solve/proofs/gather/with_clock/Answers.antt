@@ -1,4 +1,4 @@
-use Rattle.std.proofs.Common.{rules, ◌≡◌, ◌<◌, ◌≤◌, ◌^◌, ◌++◌, sym, subst, None, Option, List, ℕ}
+use Rattle.std.proofs.Common.{rules, ◌≡◌, ◌<◌, ◌≤◌, ◌^◌, ◌++◌, sym, subst, None, Option, ℕ}
 use Rattle.std.specs.Option.{MatchOption}
 use Rattle.rational_time.specs.Multiple.{IsLcm, HasMultipleBelow}
 use Rattle.sub_clock_solve.specs.Grain.{own_denominators, IsGrain}

@@ -1,5 +1,4 @@
-use Rattle.std.proofs.Common.{rules, ◌≡◌, ◌∙◌, ◌+◌, ◌++◌, ◌∷◌, [], List, None, Some, true, false, sym, subst}
-use Rattle.sub_clock_solve.specs.declared.given.Given.{Given}
+use Rattle.std.proofs.Common.{rules, ◌≡◌, ◌+◌, ◌++◌, ◌∷◌, [], None, sym, subst}
 use Rattle.sub_clock_solve.specs.Given.{IsStep}
 use Rattle.sub_clock_solve.proofs.Giving.{every_step, site_step, given_of}
 use Rattle.sub_clock_solve.proofs.given.add.Goals as goal

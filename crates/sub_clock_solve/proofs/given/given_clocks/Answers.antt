@@ -1,4 +1,4 @@
-use Rattle.std.proofs.Common.{rules, arith, ◌≡◌, ◌<◌, length}
+use Rattle.std.proofs.Common.{rules, ◌<◌, length}
 use Rattle.clock_terms.specs.Source.{sources_of}
 use Rattle.sub_clock_solve.proofs.Giving.{constructor_step, constructors_end}
 use Rattle.sub_clock_solve.proofs.given.given_clocks.Goals as goal

@@ -1,7 +1,6 @@
-use Rattle.std.proofs.Common.{rules, arith, ◌≡◌, ◌∙◌, ◌<◌, ◌≤◌, ◌^◌, refl, sym, ap, subst, length, get_or}
+use Rattle.std.proofs.Common.{rules, arith, ◌∙◌, ◌<◌, ◌≤◌, ◌^◌, sym, subst, length, get_or}
 use Rattle.clock_terms.specs.Position.{IsFine}
 use Rattle.clock_spread.specs.Found.{class_in}
-use Rattle.sub_clock_solve.specs.declared.given.Given.{Given}
 use Rattle.sub_clock_solve.proofs.Seeds.{IsSeeded, seed_agree, seed_fine, seed_kept, seed_all_of}
 use Rattle.sub_clock_solve.proofs.seed.seed_all.Goals as goal
 

@@ -1,11 +1,10 @@
-use Rattle.std.proofs.Common.{rules, ◌≡◌, ◌∙◌, ◌+◌, ◌<◌, ◌^◌, sym, ap, subst, None, Some, List, length, take, All}
+use Rattle.std.proofs.Common.{rules, ◌≡◌, ◌∙◌, ◌+◌, ◌<◌, ◌^◌, sym, ap, subst, None, length, take, All}
 use Rattle.rational_time.specs.Multiple.{HasMultipleBelow}
-use Rattle.clock_terms.specs.Position.{IsFine}
 use Rattle.clock_terms.specs.Source.{sources_of}
-use Rattle.clock_spread.specs.Least.{IsLeast, IsLeastOf}
+use Rattle.clock_terms.specs.Least.{IsLeast}
 use Rattle.sub_clock_solve.specs.Grain.{denominators}
 use Rattle.sub_clock_solve.specs.Gathering.{kept_grids}
-use Rattle.sub_clock_solve.specs.Solving.{said_of, FailsAt, IsSolution, IsConflictAt}
+use Rattle.sub_clock_solve.specs.Solving.{said_of, FailsAt, IsSolution}
 use Rattle.sub_clock_solve.proofs.Giving.{given_nodes, all_fine}
 use Rattle.sub_clock_solve.proofs.Rounding.{final_agree, final_proper}
 use Rattle.sub_clock_solve.proofs.Ending.{past_at, grids, ends, solved, conflict_none}

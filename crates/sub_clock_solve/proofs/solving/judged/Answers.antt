@@ -1,10 +1,6 @@
-use Rattle.std.proofs.Common.{rules, ◌≡◌, ◌∙◌, sym, ap, subst, Some}
-use Rattle.clock_spread.specs.declared.offers.Found.TheVariants.{Not}
-use Rattle.clock_spread.specs.Found.{found_of}
-use Rattle.clock_spread.specs.Queue.{marked}
-use Rattle.clock_spread.specs.Least.{IsLeast}
+use Rattle.std.proofs.Common.{rules, ◌≡◌, subst}
 use Rattle.sub_clock_solve.specs.Spreading.{IsSpread}
-use Rattle.sub_clock_solve.proofs.Ending.{unknown_answer, lost_answer, known_all}
+use Rattle.sub_clock_solve.proofs.Ending.{unknown_answer, lost_answer}
 use Rattle.sub_clock_solve.proofs.solving.judged.Goals as goal
 
 pub returns-in-Some : goal.returns-in-Some

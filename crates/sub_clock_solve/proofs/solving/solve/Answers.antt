@@ -1,4 +1,4 @@
-use Rattle.std.proofs.Common.{rules, arith, ◌≡◌, ◌<◌, [], length, sym, subst}
+use Rattle.std.proofs.Common.{rules, ◌≡◌, [], sym, subst}
 use Rattle.sub_clock_solve.specs.Solving.{IsSolution}
 use Rattle.sub_clock_solve.proofs.Fitting.{some_classes, no_classes, some_length}
 use Rattle.sub_clock_solve.proofs.solving.solve.Goals as goal

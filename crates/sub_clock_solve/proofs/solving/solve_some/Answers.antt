@@ -1,4 +1,4 @@
-use Rattle.std.proofs.Common.{rules, ◌≡◌, ◌∙◌, ◌<◌, ◌^◌, sym, ap, subst, length, All}
+use Rattle.std.proofs.Common.{rules, ◌≡◌, ◌<◌, ◌^◌, sym, subst, length, All}
 use Rattle.clock_terms.specs.Position.{IsFine}
 use Rattle.clock_terms.specs.Source.{sources_of}
 use Rattle.sub_clock_solve.specs.Given.{AreSources}
