@@ -1,10 +1,10 @@
 #!/usr/bin/env bash
-# Times `order` on large models, in a program of its own beside copies of the crates.
+# Times `order`, and `stages` behind it, on large models, in a program of its own beside copies of the crates.
 #
 #     bench/order.sh
 #
-# Prints for each model the seconds of the fastest of five runs that order it, less those of the fastest of five runs
-# that only make it. The models: 65,536 equations in a chain that is given backwards; one equation that reads 5,000
+# Prints for each model the seconds of the fastest of five runs that order it, and of five that tell the stages of its
+# uses too, less those of the fastest of five runs that only make it. The models: 65,536 equations in a chain that is given backwards; one equation that reads 5,000
 # names, with those of the other names behind it; 20,000 equations in two chains, in each of which an equation reads a
 # name of the other chain; and 839,972 conversions between the clocks of 917 names, whose parts have 40 bits.
 set -eu
@@ -14,12 +14,12 @@ scratch="$(mktemp -d)"
 trap 'rm -rf "$scratch"' EXIT
 
 mkdir -p "$scratch/crates/order_time/src" "$scratch/crates/order_time/proofs"
-for crate in sync_values rational_time flat_model eq_orient eq_order; do
+for crate in sync_values rational_time flat_model eq_orient eq_order moment_theory moment_order; do
     cp -r "$root/crates/$crate" "$scratch/crates/"
 done
 cp "$root/HANDLES" "$scratch/"
-grep -E '^(sync_values|rational_time|flat_model|eq_orient|eq_order):' "$root/crates.txt" >"$scratch/crates.txt"
-printf 'order_time: eq_order flat_model rational_time sync_values\n' >>"$scratch/crates.txt"
+grep -E '^(sync_values|rational_time|flat_model|eq_orient|eq_order|moment_theory|moment_order):' "$root/crates.txt" >"$scratch/crates.txt"
+printf 'order_time: eq_order flat_model moment_order rational_time sync_values\n' >>"$scratch/crates.txt"
 # What a test does to tell that clocks can be run serves here too, with its proof.
 cp "$root/crates/order_tests/src/fine.rt" "$scratch/crates/order_time/src/"
 cp -r "$root/crates/order_tests/proofs/fine" "$root/crates/order_tests/proofs/Grids.antt" "$scratch/crates/order_time/proofs/"
@@ -27,7 +27,8 @@ printf 'pub mod Grids\n' >"$scratch/crates/order_time/proofs/Lib.antt"
 grep -rl order_tests "$scratch/crates/order_time" | xargs sed -i 's/order_tests/order_time/g'
 
 cat >"$scratch/crates/order_time/src/main.rt" <<'PROGRAM'
-//! Makes a model that its word names by a letter, and orders it where the word has a second letter.
+//! Makes a model that its word names by a letter, orders it where the word has a second letter, and tells the stages of
+//! its uses where it has a third.
 #![tactic(auto)]
 
 mod fine;
@@ -35,6 +36,7 @@ mod fine;
 use eq_order::order;
 use fine::are_clocks;
 use flat_model::{Clock, Clocking, Conversion, Equation, Expr, FlatModel, FlatName, NameKind};
+use moment_order::stages;
 use rational_time::make;
 use std::alloc::{AllocError, Global};
 use std::process::{Abort, ExitCode};
@@ -196,10 +198,14 @@ fn status(rt: &impl Abort, alloc: Global, word: &[u8]) -> Result<u8, AllocError>
     }
     assert!(rt; made.flat.equations.len() <= 65_536);
     assert!(rt; are_clocks(&made.clocking, GRID));
-    match order(alloc, &made.flat, &made.clocking) {
-        Ok(_) => Ok(0),
-        Err(_) => Ok(1),
+    let Ok(uses) = order(alloc, &made.flat, &made.clocking) else {
+        return Ok(1);
+    };
+    if 2 < word.len() {
+        let stages = stages(alloc, &made.flat, &made.clocking, uses.as_slice())?;
+        assert!(rt; stages.len() == uses.len());
     }
+    Ok(0)
 }
 
 fn main(rt: HostRuntime) -> ExitCode {
@@ -250,5 +256,7 @@ for letter, what, status in [
 ]:
     made = fastest(letter, [2])
     statuses = [0, 1] if status is None else [status]
-    print(f"{what} {fastest(letter + 'o', statuses) - made:.4f} s (and {made:.4f} s to make them)")
+    ordered = fastest(letter + "o", statuses) - made
+    staged = fastest(letter + "os", statuses) - made
+    print(f"{what} {ordered:.4f} s, with stages {staged:.4f} s (and {made:.4f} s to make them)")
 PYTHON
