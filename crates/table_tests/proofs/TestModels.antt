@@ -20,10 +20,10 @@ names_apart a b first second apart = record { few = omega arith; each = each; ap
     pairs (suc i) (suc zero) d less within = absurd (omega arith)
     pairs (suc i) (suc (suc j)) d less within = absurd (omega arith)
 
--- a model of two names with no equations
-pub two_names : (model : FlatModel) (a b : FlatName) → model.names ≡ a ∷ (b ∷ []) → model.equations ≡ [] → model.clauses ≡ [] → IsName a → IsName b → a.text ≢ b.text → IsModel model
-two_names model a b names equations clauses first second apart = record {
-  names = subst AreNames (sym names) (names_apart a b first second apart);
+-- a model with no equations
+pub without_equations : (model : FlatModel) → AreNames model.names → model.equations ≡ [] → model.clauses ≡ [] → IsModel model
+without_equations model names equations clauses = record {
+  names = names;
   few = let none : length model.equations ≡ 0 = ap length equations in omega (arith, none);
   typed = record {
     equations = λ k d less. absurd (omega (arith, ap length equations));
@@ -42,3 +42,7 @@ two_names model a b names equations clauses first second apart = record {
     used = λ c less. absurd (omega (arith, ap length clauses));
   };
 }
+
+-- a model of two names with no equations
+pub two_names : (model : FlatModel) (a b : FlatName) → model.names ≡ a ∷ (b ∷ []) → model.equations ≡ [] → model.clauses ≡ [] → IsName a → IsName b → a.text ≢ b.text → IsModel model
+two_names model a b names equations clauses first second apart = without_equations model (subst AreNames (sym names) (names_apart a b first second apart)) equations clauses

@@ -5,3 +5,5 @@
 mod edges;
 #[cfg(test)]
 mod tables;
+#[cfg(test)]
+mod wide;
