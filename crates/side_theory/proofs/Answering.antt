@@ -42,14 +42,14 @@ unfolding type_of
 type_of-Read types x = ap (type_of types) (sym (rolls-Read x)) ∙ fold-roll-Expr (Unit {0}) (Option NameKind) (λ _. tt) (type_of_level types) (Expr-F.Read x)
 
 -- what holds of the start, and of the values at ticks, holds of the value at the tick before
-at_tick_before : (P : Option Value → Type 0) (ticks : ℕ → Bool) (values : ℕ → Option Value) (start : Value) (m : ℕ) → P (Some start) → ((k : ℕ) → k < m → ticks k ≡ true → P (values k)) → P (value_at_tick values start (tick_before ticks m))
+pub at_tick_before : (P : Option Value → Type 0) (ticks : ℕ → Bool) (values : ℕ → Option Value) (start : Value) (m : ℕ) → P (Some start) → ((k : ℕ) → k < m → ticks k ≡ true → P (values k)) → P (value_at_tick values start (tick_before ticks m))
 at_tick_before P ticks values start zero first each = first
 at_tick_before P ticks values start (suc m) first each = by_tick (ticks m) refl (at_tick_before P ticks values start m first (λ k lt. each k (omega (arith, lt)))) where
   by_tick : (b : Bool) → ticks m ≡ b → P (value_at_tick values start (tick_before ticks m)) → P (value_at_tick values start (if b then Some m else tick_before ticks m))
   by_tick true is rest = each m (omega arith) is
   by_tick false is rest = rest
 
-less_or : (j m : ℕ) → j < suc m → (j < m) ⊎ (j ≡ m)
+pub less_or : (j m : ℕ) → j < suc m → (j < m) ⊎ (j ≡ m)
 less_or zero zero lt = inr refl
 less_or zero (suc m) lt = inl (omega arith)
 less_or (suc j) zero lt = absurd (omega (arith, lt))

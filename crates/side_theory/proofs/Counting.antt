@@ -44,7 +44,7 @@ reached_split y (entry ∷ before) rest (inr reached) = by (reached_split y befo
   by (inl h) = inl (inr h)
   by (inr h) = inr h
 
-free_behind : (s : Setting) (before rest : List Use) → AreFree s (before ++ rest) → AreFree s rest
+pub free_behind : (s : Setting) (before rest : List Use) → AreFree s (before ++ rest) → AreFree s rest
 free_behind s [] rest free = free
 free_behind s (entry ∷ before) rest free = free_behind s before rest free.1
 

@@ -4,3 +4,4 @@ pub mod Turns
 pub mod Answering
 pub mod Counting
 pub mod Onward
+pub mod Taking

@@ -1,6 +1,7 @@
 -- A stretch whose lines all have values leaves a row from which the next one begins.
-use Rattle.std.proofs.Common.{◌≡◌, refl, ap, sym, subst, ◌∙◌, ℕ, ◌==◌, true, if◌then◌else◌, List, [], ◌∷◌, ◌++◌, append_assoc, Some, IsSome, ◌⊎◌, inl, inr}
+use Rattle.std.proofs.Common.{◌≡◌, refl, sym, subst, ◌∙◌, ℕ, true, List, [], ◌∷◌, ◌++◌, append_assoc, Some, IsSome, ◌⊎◌, inl, inr}
 use Rattle.sync_values.specs.declared.value.Value.{Value}
+use Rattle.flat_model.specs.Asks.{Asking}
 use Rattle.flat_model.specs.Assignment.{Assignment}
 use Rattle.flat_model.specs.Given.{Row, with_row}
 use Rattle.flat_model.specs.Meaning.{value_of}
@@ -15,9 +16,9 @@ use Rattle.moment_theory.proofs.FromRunnable.{facts_of}
 use Rattle.step_code.specs.Lines.{Line, given, Ended, All, Failed, Missing, ended_by, lines_end}
 use Rattle.side_theory.specs.Counted.{Begins, OnwardEnds}
 use Rattle.side_theory.specs.Sides.{IsSideUse, DoesAs}
-use Rattle.side_theory.specs.Stretches.{AreShown, AreLinesOf}
+use Rattle.side_theory.specs.Stretches.{IsSameAt, AreShown, AreLinesOf}
 use Rattle.side_theory.proofs.Side.{does_as}
-use Rattle.side_theory.proofs.Showing.{all_shown}
+use Rattle.side_theory.proofs.Showing.{all_shown, same_given}
 use Rattle.side_theory.proofs.Turns.{same_at}
 use Rattle.side_theory.proofs.Counting.{reached_split, counts, facts, still, begins_next}
 
@@ -37,19 +38,20 @@ module _ (s : Setting) (uses : List Use) (class : ℕ) (S : Assignment) (m : ℕ
   -- one use more
   one_on : (before entries : List Use) (row : Row) (views : Views) (entry : Use) (x : ℕ) (v : Value) (e : Ended) → x ≡ entry.name → Gives s S m row entry v
       → ((other : ℕ) → class_ticks s (with_row S m row) (Some other) m ≡ class_ticks s (with_row S m (put row entry.name v)) (Some other) m)
+      → ((d : ℕ) (q : Asking) → IsSameAt views (views_at s (with_row S m row) (Some class) m) d q → IsSameAt (given entry.name v views) (views_at s (with_row S m (put row entry.name v)) (Some class) m) d q)
       → OnwardEnds s uses (before ++ (entry ∷ [])) S m (put row entry.name v) entries class (given x v views) e → OnwardEnds s uses before S m row (entry ∷ entries) class views e
-  one_on before entries row views entry x v (All after) name gives still (last, taken, goes, begins) = (
+  one_on before entries row views entry x v (All after) name gives still same_on (last, taken, shows, begins) = (
     last,
     (put row entry.name v, inl (v, gives, λ y. refl), taken),
-    λ y same. goes y (subst (λ z. (if y == x then Some v else (views 0).now y) ≡ put row z v y) name (ap (λ o. if y == x then Some v else o) same)),
+    λ same. shows (λ d q. subst (λ z. IsSameAt (given z v views) (views_at s (with_row S m (put row entry.name v)) (Some class) m) d q) (sym name) (same_on d q (same d q))),
     λ other partition ticks. subst (Begins s S m last other) (append_assoc before (entry ∷ []) entries) (begins other partition (sym (still other) ∙ ticks)),
   )
-  one_on before entries row views entry x v (Failed after kind line behind) name gives still ends = tt
-  one_on before entries row views entry x v Missing name gives still ends = tt
+  one_on before entries row views entry x v (Failed after kind line behind) name gives still same_on ends = tt
+  one_on before entries row views entry x v Missing name gives still same_on ends = tt
 
   pub onward : (before entries after : List Use) → IsOrdered s uses (before ++ (entries ++ after)) → (ls : List Line) → AreLinesOf s uses class entries ls → (row : Row) (views : Views) → Begins s S m row class before → AreShown s S m row class ls views
       → OnwardEnds s uses before S m row entries class views (lines_end ls views)
-  onward before [] after ordered [] lines row views begins shown = (row, λ y. refl, λ y same. same, no_more before row begins)
+  onward before [] after ordered [] lines row views begins shown = (row, λ y. refl, λ same. same, no_more before row begins)
   onward before [] after ordered (l ∷ ls) lines row views begins shown = absurd lines
   onward before (entry ∷ entries) after ordered [] lines row views begins shown = absurd lines
   onward before (entry ∷ entries) after ordered (l ∷ ls) lines row views begins shown =
@@ -72,11 +74,16 @@ module _ (s : Setting) (uses : List Use) (class : ℕ) (S : Assignment) (m : ℕ
           subst (λ x. AreShown s S m (put row entry.name v) class ls (given x v views)) (sym lines.0.1)
           (all_shown s (facts_of s ordered.runs).unclocked S m row class entry.name v begins.ticks of.clocked of.sites ls views shown.1)
 
+      given_same : (v : Value) (d : ℕ) (q : Asking) → IsSameAt views (views_at s (with_row S m row) (Some class) m) d q → IsSameAt (given entry.name v views) (views_at s (with_row S m (put row entry.name v)) (Some class) m) d q
+      given_same v =
+          let of = facts s uses before (entries ++ after) entry ordered l.side class lines.0.0 is S m row begins in
+          same_given s (facts_of s ordered.runs).unclocked S m row class entry.name v begins.ticks of.clocked of.sites views
+
       by_answer : (a : Answer) → value_of l.side views ≡ a → DoesAs s uses S m row entry a
           → ((v : Value) → value_of l.side (views_at s (with_row S m row) (Some class) m) ≡ Is v → OnwardEnds s uses (before ++ (entry ∷ [])) S m (put row entry.name v) entries class (given l.name v views) (lines_end ls (given l.name v views)))
           → OnwardEnds s uses before S m row (entry ∷ entries) class views (ended_by a views l ls (lines_end ls))
       by_answer (Is v) value_is gives more =
           one_on before entries row views entry l.name v (lines_end ls (given l.name v views)) lines.0.1 gives
-          (λ other. still s uses before (entries ++ after) entry ordered l.side class lines.0.0 is S m row begins v (sym seen ∙ value_is) (Some other)) (more v (sym seen ∙ value_is))
+          (λ other. still s uses before (entries ++ after) entry ordered l.side class lines.0.0 is S m row begins v (sym seen ∙ value_is) (Some other)) (given_same v) (more v (sym seen ∙ value_is))
       by_answer (Fails kind) value_is fails more = tt
       by_answer Absent value_is none more = tt

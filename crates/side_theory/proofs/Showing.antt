@@ -35,7 +35,7 @@ same_on a b c d OfFirst one two = one ∙ two
 same_on a b c d OfInterval one two = one ∙ two
 
 -- the value at a tick is the last one
-at_tick : (ticks : ℕ → Bool) (values : ℕ → Option Value) (start : Value) (m : ℕ) → ticks m ≡ true → last_value ticks values start m ≡ values m
+pub at_tick : (ticks : ℕ → Bool) (values : ℕ → Option Value) (start : Value) (m : ℕ) → ticks m ≡ true → last_value ticks values start m ≡ values m
 at_tick ticks values start m h = ap (λ b. value_at_tick values start (if b then Some m else tick_before ticks m)) h
 
 module _ (s : Setting) (unclocked : AreSitesUnclocked s) (S : Assignment) (m : ℕ) (row : Row) (class x : ℕ) (v : Value)
@@ -89,17 +89,18 @@ module _ (s : Setting) (unclocked : AreSitesUnclocked s) (S : Assignment) (m : �
       not_same : y ≡ x → ⊥
       not_same is = let h : false ≡ true = sym same ∙ eq-eqb y x is in cc
 
-  pub shows_on : (side : Expr) (views : Views) → Shows s S m row class side views → Shows s S m (put row x v) class side (given x v views)
-  shows_on side views shows zero (OfNow y) asks = now_on views y (shows 0 (OfNow y) asks) (y == x) refl
-  shows_on side views shows zero (OfLast y) asks = last_on views y (shows 0 (OfLast y) asks) (y == x) refl
-  shows_on side views shows zero (OfPrevious y) asks = shows 0 (OfPrevious y) asks
+  -- what is the same over the row is so with the value
+  pub same_given : (views : Views) (d : ℕ) (q : Asking) → IsSameAt views (views_at s A (Some class) m) d q → IsSameAt (given x v views) (views_at s B (Some class) m) d q
+  same_given views zero (OfNow y) shows = now_on views y shows (y == x) refl
+  same_given views zero (OfLast y) shows = last_on views y shows (y == x) refl
+  same_given views zero (OfPrevious y) shows = shows
       ∙ previous_same (name_ticks s A y) (name_ticks s B y) (A y) (B y) (start_of s y) (m - 0) (λ j lt. ticks_earlier (class_of_name s y) j (omega (arith, lt))) (λ j lt. before y j (omega (arith, lt)))
-  shows_on side views shows zero OfFirst asks = shows 0 OfFirst asks
+  same_given views zero OfFirst shows = shows
       ∙ ap is_none (tick_before_same (class_ticks s A (Some class)) (class_ticks s B (Some class)) (m - 0) (λ j lt. ticks_earlier (Some class) j (omega (arith, lt))))
-  shows_on side views shows zero OfInterval asks = shows 0 OfInterval asks
+  same_given views zero OfInterval shows = shows
       ∙ interval_same s (class_ticks s A (Some class)) (class_ticks s B (Some class)) (m - 0) (clock_of s (Some class)) (λ j lt. ticks_earlier (Some class) j (omega (arith, lt)))
-  shows_on side views shows (suc d) q asks =
-      same_on (given x v views) (views_at s A (Some class) m) (views_at s B (Some class) m) (suc d) q (back q (shows (suc d) q asks)) (by_moment m refl)
+  same_given views (suc d) q shows =
+      same_on (given x v views) (views_at s A (Some class) m) (views_at s B (Some class) m) (suc d) q (back q shows) (by_moment m refl)
     where
       back : (q : Asking) → IsSameAt views (views_at s A (Some class) m) (suc d) q → IsSameAt (given x v views) (views_at s A (Some class) m) (suc d) q
       back (OfNow y) h = h
@@ -112,6 +113,9 @@ module _ (s : Setting) (unclocked : AreSitesUnclocked s) (S : Assignment) (m : �
       by_moment zero at = absurd (none-some class (sym (unclocked_at_first s A (Some class) (subst (λ k. class_ticks s A (Some class) k ≡ true) at ticks))))
       by_moment (suc k) at = same_by (views_at s A (Some class) m) (views_at s B (Some class) m) (suc d) q
           (view_same s A B (Some class) k (m - suc d) (λ y n le. before y n (omega (arith, le, at))) (omega (arith, at)))
+
+  pub shows_on : (side : Expr) (views : Views) → Shows s S m row class side views → Shows s S m (put row x v) class side (given x v views)
+  shows_on side views shows d q asks = same_given views d q (shows d q asks)
 
   pub all_shown : (ls : List Line) (views : Views) → AreShown s S m row class ls views → AreShown s S m (put row x v) class ls (given x v views)
   all_shown [] views shown = tt

@@ -53,7 +53,7 @@ module _ (s : Setting) (uses : List Use) (runs : IsRunnable s) (are : AreUses s 
   }
   one_more row views entry entries x v Missing name gives ends = ends
 
-  as_many : (entries : List Use) (ls : List Line) → AreLinesOf s uses class entries ls → length entries ≡ length ls
+  pub as_many : (entries : List Use) (ls : List Line) → AreLinesOf s uses class entries ls → length entries ≡ length ls
   as_many [] [] are = refl
   as_many [] (l ∷ ls) are = absurd are
   as_many (e ∷ es) [] are = absurd are

@@ -1,4 +1,5 @@
 pub mod Counted
+pub mod Runs
 pub mod Sides
 pub mod Stretches
 pub mod Typed

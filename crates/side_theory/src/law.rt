@@ -1,4 +1,5 @@
 ghost use Rattle.side_theory.specs.Counted.{CountedLaw, OnwardLaw};
+ghost use Rattle.side_theory.specs.Runs.{RunLaw};
 ghost use Rattle.side_theory.specs.Sides.{SideLaw};
 ghost use Rattle.side_theory.specs.Stretches.{StretchLaw};
 ghost use Rattle.side_theory.specs.Typed.{TypedLaw};
@@ -26,4 +27,9 @@ pub fn counted_law()
 /// A stretch whose lines all have values leaves a row from which the next one of the base partition begins.
 pub fn onward_law()
     ensures { OnwardLaw }
+{}
+
+/// Over cells that hold a row a run of the code of a stretch takes its uses, or tells the first that fails.
+pub fn run_law()
+    ensures { RunLaw }
 {}
