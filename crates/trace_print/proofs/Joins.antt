@@ -133,11 +133,6 @@ pub behind_three : (out one two three a b c rest : List ℕ) → one ≡ out ++ 
 behind_three out one two three a b c rest first second third =
     ap (λ t. t ++ rest) (third ∙ ap (λ t. t ++ c) (second ∙ ap (λ t. t ++ b) first)) ∙ three_more out a b c rest
 
--- four pieces and what stands behind them
-pub behind_four : (out one two three four a b c d rest : List ℕ) → one ≡ out ++ a → two ≡ one ++ b → three ≡ two ++ c → four ≡ three ++ d → four ++ rest ≡ out ++ (a ++ b ++ c ++ d ++ rest)
-behind_four out one two three four a b c d rest first second third last =
-    ap (λ t. t ++ rest) (last ∙ ap (λ t. t ++ d) (third ∙ ap (λ t. t ++ c) (second ∙ ap (λ t. t ++ b) first))) ∙ four_more out a b c d rest
-
 -- before the first condition
 pub choices_begin : (names : List FlatName) (expr other : Expr) (items conditions branches : List Expr) (word out : List ℕ) → word ≡ codes "(if " → items ≡ conditions → expr ≡ If conditions branches other
     → out ++ (choices word (map (expr_text names) items) (map (expr_text names) branches) ++ (codes " else " ++ expr_text names other ++ codes ")")) ≡ out ++ expr_text names expr
@@ -149,10 +144,11 @@ choices_begin names expr other items conditions branches word out begun same is 
     ∙ sym (text-If names conditions branches other) ∙ ap (expr_text names) (sym is))
 
 -- a `sample` on a clock, piece by piece
-pub sample_on : (names : List FlatName) (part : Expr) (clock : ClockExpr) (out one two three four : List ℕ) → one ≡ out ++ codes "sample(" → two ≡ one ++ expr_text names part → three ≡ two ++ codes ", " → four ≡ three ++ clock_text names clock
-    → four ++ codes ")" ≡ out ++ expr_text names (Sample part (Some clock))
-sample_on names part clock out one two three four first second third last =
+pub sample_on : (names : List FlatName) (part : Expr) (clock : ClockExpr) (out one two : List ℕ) → one ≡ out ++ codes "sample(" → two ≡ one ++ expr_text names part
+    → two ++ (codes ", " ++ clock_text names clock ++ codes ")") ≡ out ++ expr_text names (Sample part (Some clock))
+sample_on names part clock out one two first second =
     let p = expr_text names part in
     let c = clock_text names clock in
-    behind_four out one two three four (codes "sample(") p (codes ", ") c (codes ")") first second third last
-    ∙ ap (λ t. out ++ t) (ap (λ t. t ++ codes ")") (two_more (codes "sample(") p (codes ", ") c) ∙ sym (text-Sample_on names part clock))
+    let rest = codes ", " ++ c ++ codes ")" in
+    ap (λ t. t ++ rest) (second ∙ ap (λ t. t ++ p) first) ∙ two_more out (codes "sample(") p rest
+    ∙ ap (λ t. out ++ t) (append_assoc (codes "sample(") p rest ∙ ap (λ t. codes "sample(" ++ t) (sym (two_more p (codes ", ") c (codes ")"))) ∙ sym (text-Sample_on names part clock))

@@ -1,13 +1,13 @@
 //! The texts of expressions, and of expressions for clocks.
 ghost use Rattle.std.specs.Prelude.{◌≡◌, ◌++◌, ◌∷◌, [], OnOk, codes, map, min};
 ghost use Rattle.trace_print.specs.Openings.{openings};
-ghost use Rattle.trace_print.specs.Printed.{expr_text, clock_text, chain_text, choices, separated};
+ghost use Rattle.trace_print.specs.Printed.{expr_text, clock_text, call_text, chain_text, choices, fun_text, separated};
 
 use crate::put::{
     put, put_conversion, put_interval, put_name, put_operator, put_rational, put_value,
 };
 use crate::words::{fun_text, op_text, rel_text};
-use flat_model::{ClockExpr, Expr, FlatName};
+use flat_model::{ClockExpr, Expr, FlatName, Fun};
 use std::alloc::AllocError;
 use sync_values::ChainOp;
 
@@ -84,6 +84,32 @@ fn put_chain(
     Ok(())
 }
 
+/// Adds the call of a function.
+#[cycle(text)]
+fn put_call(
+    out: &mut Vec<u8>,
+    names: &[FlatName],
+    function: Fun,
+    parts: &[Expr],
+) -> Result<(), AllocError>
+    ensures { OnOk result (out.new.items ≡ out.old.items ++ call_text (fun_text function) (map (expr_text names.now) parts.now)) }
+{
+    put(out, fun_text(function))?;
+    put(out, b"(")?;
+    put_list(out, names, parts)?;
+    put(out, b")")
+}
+
+/// Adds the clock of a `sample`, its second argument.
+#[cycle(text)]
+fn put_second(out: &mut Vec<u8>, names: &[FlatName], clock: &ClockExpr) -> Result<(), AllocError>
+    ensures { OnOk result (out.new.items ≡ out.old.items ++ (codes ", " ++ clock_text names.now clock.now ++ codes ")")) }
+{
+    put(out, b", ")?;
+    put_clock(out, names, clock)?;
+    put(out, b")")
+}
+
 /// Adds an expression.
 #[cycle(text)]
 #[tactic(auto, using(crate::proofs::Texts::texts))]
@@ -116,12 +142,7 @@ pub(crate) fn put_expr(out: &mut Vec<u8>, names: &[FlatName], expr: &Expr) -> Re
             }
             put_around(out, names, b" else ", other.get())
         }
-        Expr::Apply(function, parts) => {
-            put(out, fun_text(*function))?;
-            put(out, b"(")?;
-            put_list(out, names, parts.as_slice())?;
-            put(out, b")")
-        }
+        Expr::Apply(function, parts) => put_call(out, names, *function, parts.as_slice()),
         Expr::Previous(x) => put_operator(out, names, b"previous", Some(*x)),
         Expr::FirstTick(x) => put_operator(out, names, b"firstTick", *x),
         Expr::IntervalTimes(x, k) => put_interval(out, names, *x, *k),
@@ -132,9 +153,7 @@ pub(crate) fn put_expr(out: &mut Vec<u8>, names: &[FlatName], expr: &Expr) -> Re
             Some(clock) => {
                 put(out, b"sample(")?;
                 put_expr(out, names, part.get())?;
-                put(out, b", ")?;
-                put_clock(out, names, clock)?;
-                put(out, b")")
+                put_second(out, names, clock)
             }
         },
     }

@@ -1,8 +1,8 @@
-use Rattle.std.proofs.Common.{rules, Some, ◌≡◌, ap, sym, subst, ◌∙◌, ◌++◌, ◌∷◌, OnOk, codes, map, append_assoc}
+use Rattle.std.proofs.Common.{rules, Some, ◌≡◌, ap, sym, subst, ◌∙◌, ◌++◌, ◌∷◌, OnOk, codes, append_assoc}
 use Rattle.flat_model.specs.declared.expression.Expr.TheVariants.{Sample}
-use Rattle.trace_print.specs.Printed.{expr_text, rel_text, fun_text, separated}
+use Rattle.trace_print.specs.Printed.{expr_text, clock_text, rel_text}
 use Rattle.trace_print.proofs.Joins.{chain_begins, chain_ends, list_begins, behind_three, choices_begin, sample_on}
-use Rattle.trace_print.proofs.Texts.{text-Relation, text-Apply}
+use Rattle.trace_print.proofs.Texts.{text-Relation}
 use Rattle.trace_print.proofs.expr.+text.Goals as goal
 
 pub put_chain-loop-i-init : goal.put_chain-loop-i-init
@@ -30,36 +30,23 @@ put_expr-returns-in_ok-put-in-Relation-2 t c =
     let all = behind_three c.args.out.now.items c.put.new.out.items c.put_expr.new.out.items c.put-in-Relation.new.out.items (codes "(") l m (r ++ codes ")")
     c.in_ok-put-in-Relation.ensures (c.in_ok-put_expr-in-Relation.ensures ∙ ap (λ e. c.put.new.out.items ++ expr_text names e) left)
     (c.in_ok-put-in-Relation-2.ensures ∙ ap (λ t. c.put_expr.new.out.items ++ t) c.rel_text.ensures) in
-    let whole = ap (λ e. c.put-in-Relation.new.out.items ++ (expr_text names e ++ codes ")")) right ∙ all ∙ ap (λ t. c.args.out.now.items ++ t) (sym (append_assoc (codes "(" ++ l ++ m) r (codes ")"))
+    let whole : c.put-in-Relation.new.out.items ++ (expr_text names c.get-in-Relation.result.now ++ codes ")") ≡ c.args.out.now.items ++ expr_text names c.args.expr.now = ap (λ e. c.put-in-Relation.new.out.items ++ (expr_text names e ++ codes ")")) right ∙ all ∙ ap (λ t. c.args.out.now.items ++ t) (sym (append_assoc (codes "(" ++ l ++ m) r (codes ")"))
     ∙ sym (text-Relation names c.in-Relation.rel c.in-Relation.left c.in-Relation.right) ∙ ap (expr_text names) (sym c.in-Relation.is)) in
     subst (λ t. OnOk c.put_around.result (c.put_around.new.out.items ≡ t)) whole c.put_around.ensures
-
-pub put_expr-returns-in_ok-put_list-in-Apply : goal.put_expr-returns-in_ok-put_list-in-Apply
-put_expr-returns-in_ok-put_list-in-Apply t c =
-    let names = c.args.names.now in
-    let f = fun_text c.in-Apply.function in
-    let parts = c.in-Apply.parts in
-    let all = behind_three c.args.out.now.items c.put-in-Apply.new.out.items c.put-in-Apply-2.new.out.items c.put_list.new.out.items f (codes "(") (separated (map (expr_text names) parts)) (codes ")")
-    (c.in_ok-put-in-Apply.ensures ∙ ap (λ t. c.args.out.now.items ++ t) c.fun_text.ensures) c.in_ok-put-in-Apply-2.ensures
-    (c.in_ok-put_list-in-Apply.ensures ∙ ap (λ ps. c.put-in-Apply-2.new.out.items ++ separated (map (expr_text names) ps)) c.as_slice-in-Apply.ensures) in
-    let whole = all ∙ ap (λ t. c.args.out.now.items ++ t) (sym (text-Apply names c.in-Apply.function parts) ∙ ap (expr_text names) (sym c.in-Apply.is)) in
-    subst (λ t. OnOk c.put-in-Apply-3.result (c.put-in-Apply-3.new.out.items ≡ t)) whole c.put-in-Apply-3.ensures
 
 pub put_expr-loop-i-init : goal.put_expr-loop-i-init
 put_expr-loop-i-init t c =
     choices_begin c.args.names.now c.args.expr.now c.in-If.other c.as_slice-condition-items.result.now c.in-If.conditions c.in-If.branches c.as_slice-word.result.now c.args.out.now.items
     c.as_slice-word.ensures c.as_slice-condition-items.ensures c.in-If.is
 
-pub put_expr-returns-in_ok-put_clock-in-Some-clock : goal.put_expr-returns-in_ok-put_clock-in-Some-clock
-put_expr-returns-in_ok-put_clock-in-Some-clock t c =
+pub put_expr-returns-in_ok-put_expr-in-Some-clock : goal.put_expr-returns-in_ok-put_expr-in-Some-clock
+put_expr-returns-in_ok-put_expr-in-Some-clock t c =
     let names = c.args.names.now in
     let out = c.args.out.now.items in
     let part = c.in-Sample.part in
     let clock = c.in-Some-clock.clock in
     let is : c.args.expr.now ≡ Sample part (Some clock) = c.in-Sample.is ∙ ap (λ field. Sample part field) c.in-Some-clock.is in
-    let whole : c.put_clock.new.out.items ++ codes ")" ≡ out ++ expr_text names c.args.expr.now =
-    sample_on names part clock out c.put-in-Some-clock.new.out.items c.put_expr-in-Some-clock.new.out.items c.put-in-Some-clock-2.new.out.items c.put_clock.new.out.items
-    c.in_ok-put-in-Some-clock.ensures
-    (c.in_ok-put_expr-in-Some-clock.ensures ∙ ap (λ e. c.put-in-Some-clock.new.out.items ++ expr_text names e) c.get-in-Some-clock.ensures)
-    c.in_ok-put-in-Some-clock-2.ensures c.in_ok-put_clock-in-Some-clock.ensures ∙ ap (λ e. out ++ expr_text names e) (sym is) in
-    subst (λ t. OnOk c.put-in-Some-clock-3.result (c.put-in-Some-clock-3.new.out.items ≡ t)) whole c.put-in-Some-clock-3.ensures
+    let whole : c.put_expr-in-Some-clock.new.out.items ++ (codes ", " ++ clock_text names clock ++ codes ")") ≡ out ++ expr_text names c.args.expr.now =
+    sample_on names part clock out c.put-in-Some-clock.new.out.items c.put_expr-in-Some-clock.new.out.items c.in_ok-put-in-Some-clock.ensures
+    (c.in_ok-put_expr-in-Some-clock.ensures ∙ ap (λ e. c.put-in-Some-clock.new.out.items ++ expr_text names e) c.get-in-Some-clock.ensures) ∙ ap (λ e. out ++ expr_text names e) (sym is) in
+    subst (λ t. OnOk c.put_second.result (c.put_second.new.out.items ≡ t)) whole c.put_second.ensures
