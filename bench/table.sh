@@ -21,25 +21,27 @@ cp "$root/HANDLES" "$scratch/"
 grep -E '^(sync_values|outside_io|rational_time|flat_model|input_table):' "$root/crates.txt" >"$scratch/crates.txt"
 echo 'table_time: outside_io input_table flat_model rational_time sync_values' >>"$scratch/crates.txt"
 # The models of the tests serve here too.
-cp "$root/crates/plan_tests/src/given.rt" "$program/src/"
-cp -r "$root/crates/plan_tests/proofs/given" "$root/crates/plan_tests/proofs/Fine.antt" \
-    "$root/crates/plan_tests/proofs/TestModels.antt" "$program/proofs/"
-find "$program/proofs" -name '*.antt' -exec sed -i 's/Rattle\.plan_tests\./Rattle.table_time./' {} +
-printf 'mod Fine\nmod TestModels\n' >"$program/proofs/Lib.antt"
+tests="$root/crates/table_tests"
+sed '/^\/\/\/ The header of 40 inputs/,$d; /^use crate::tables/d' "$tests/src/wide.rt" >"$program/src/wide.rt"
+cp -r "$tests/specs" "$program/"
+cp -r "$tests/proofs/wide" "$tests/proofs/Many.antt" "$tests/proofs/TestModels.antt" "$program/proofs/"
+find "$program" -name '*.antt' -exec sed -i 's/Rattle\.table_tests\./Rattle.table_time./' {} +
+sed -i 's/Rattle\.table_tests\./Rattle.table_time./' "$program/src/wide.rt"
+printf 'pub mod Many\npub mod TestModels\n' >"$program/proofs/Lib.antt"
 
 cat >"$program/src/main.rt" <<'PROGRAM'
-//! Reads a file into memory, and its bytes as a table so many times: `table_time FILE INPUTS TIMES`, where the model has
-//! an input if INPUTS is 1. Prints what came of the last reading.
+//! Reads a file into memory, and its bytes as a table of so many inputs so many times: `table_time FILE INPUTS TIMES`.
+//! Prints what came of the last reading.
 #![tactic(auto)]
 
-mod given;
+mod wide;
 
-use given::model;
 use input_table::{TableEnd, read_table};
 use outside_io::{FileShelf, read_whole};
 use std::alloc::Global;
 use std::io;
 use std::process::{Abort, ExitCode};
+use wide::wide_model;
 
 /// The word of a number, and 0 where there is none.
 fn number(word: Option<&String>) -> u32 {
@@ -54,10 +56,11 @@ fn rows(
     rt: &impl Abort,
     alloc: Global,
     bytes: &[u8],
-    input: bool,
+    inputs: u32,
     times: u32,
 ) -> Result<usize, TableEnd> {
-    let flat = model(rt, alloc, input);
+    assert!(rt; inputs <= 1000);
+    let flat = wide_model(rt, alloc, inputs as usize);
     assert!(rt; bytes.len() <= 16_777_216);
     let mut rows = 0;
     for _ in 0..times {
@@ -90,10 +93,10 @@ fn main(rt: HostRuntime) -> ExitCode {
         return ExitCode::from(1);
     };
     let bytes = file(&rt, words.get(0));
-    let input = number(words.get(1)) == 1;
+    let inputs = number(words.get(1));
     let times = number(words.get(2));
-    let said = match rows(&rt, rt.alloc(), bytes.as_slice(), input, times) {
-        Ok(rows) => println!(rt; "{rows} rows"),
+    let said = match rows(&rt, rt.alloc(), bytes.as_slice(), inputs, times) {
+        Ok(rows) => println!(rt; "rows: {rows}"),
         Err(TableEnd::Fault { code, .. }) => println!(rt; "{code:?}"),
         Err(TableEnd::NoMemory) => println!(rt; "no memory"),
     };
@@ -126,7 +129,7 @@ with open(path, "w", newline="") as out:
 PYTHON
 }
 
-# A case: its name, whether the model has an input, what comes of it, the first lines and a row.
+# A case: its name, how many inputs the model has, what comes of it, the first lines and a row.
 measure() {
     table "$4" "$5"
     python3 - "$program/out/table_time" "$scratch/table.csv" "$@" <<'PYTHON'
@@ -152,12 +155,16 @@ def run(times):
 size = os.stat(path).st_size
 _, before = run(0)
 _, peak = run(1)
-seconds = max((min(run(6)[0] for _ in range(5)) - min(run(1)[0] for _ in range(5))) / 5, 1e-6)
-print(f"{name:40} {wanted:>13} {seconds:8.4f} s {size / seconds / 1e6:8.0f} MB/s {(peak - before) / 1e6:8.1f} MB more")
+seconds = max((min(run(6)[0] for _ in range(5)) - min(run(1)[0] for _ in range(5))) / 5, 0)
+# What is refused is not read to its end.
+speed = f"{size / seconds / 1e6:.0f} MB/s" if wanted.startswith("rows") else ""
+print(f"{name:42} {wanted:>13} {seconds:8.4f} s {speed:>9} {(peak - before) / 1e6:6.1f} MB more")
 PYTHON
 }
 
-measure "lines of two bytes, all blank" 0 "1 rows" 'time\n0\n' '\r\n'
+measure "lines of two bytes, all blank" 0 "rows: 1" 'time\n0\n' '\r\n'
 measure "rows of two bytes, refused at the second" 0 "I6" 'time\n' '0\n'
-measure "rows of five bytes, all sums" 0 "3355442 rows" 'time2\n0\n' '+1/8\n'
-measure "ordinary rows" 1 "1335683 rows" 'time,u\n' '{seconds}.{thousandths:03},{value}\n'
+measure "rows of five bytes, each a sum" 0 "rows: 3355442" 'time2\n0\n' '+1/8\n'
+measure "a time and 1 value" 1 "rows: 1335683" 'time,u\n' '{seconds}.{thousandths:03},{value}\n'
+measure "a time and 8 values" 8 "rows: 391501" 'time,u,uu,uuu,uuuu,uuuuu,uuuuuu,uuuuuuu,uuuuuuuu\n' \
+    '{seconds}.{thousandths:03},{value},{value},{value},{value},{value},{value},{value},{value}\n'

@@ -1,8 +1,8 @@
 -- The models that tables are read for are flat models.
-use Rattle.std.proofs.Common.{◌≡◌, ◌≢◌, ◌∙◌, ap, sym, subst, refl, ℕ, zero, suc, ◌<◌, ◌≤◌, List, [], ◌∷◌, length, codes, get_or, arith}
+use Rattle.std.proofs.Common.{◌≡◌, ◌≢◌, ap, sym, subst, ℕ, zero, suc, ◌<◌, [], ◌∷◌, length, get_or, arith}
 use Rattle.flat_model.specs.declared.model.FlatModel.{FlatModel}
 use Rattle.flat_model.specs.declared.model.FlatName.{FlatName}
-use Rattle.flat_model.specs.Models.{IsName, AreNames, AreTyped, AreCounters, AreClauses, IsModel}
+use Rattle.flat_model.specs.Models.{IsName, AreNames, IsModel}
 
 names_apart : (a b : FlatName) → IsName a → IsName b → a.text ≢ b.text → AreNames (a ∷ (b ∷ []))
 names_apart a b first second apart = record { few = omega arith; each = each; apart = pairs }
