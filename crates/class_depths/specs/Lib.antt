@@ -1,0 +1,3 @@
+pub mod N11
+pub mod N4
+pub mod private
