@@ -1,4 +1,5 @@
 pub mod Counted
+pub mod Kept
 pub mod Runs
 pub mod Sides
 pub mod Stretches
