@@ -27,7 +27,7 @@ module _ (s : Setting) (S : Assignment) (m : ℕ) (row : Row) (at : Cells) (t : 
   ticks_before : (c : Option ℕ) (j : ℕ) → j < m → class_ticks s A c j ≡ class_ticks s S c j
   ticks_before c j lt = class_ticks_same s A S c j j (λ y n le. before y n (omega (arith, le, lt))) (omega arith)
 
-  previous_is : (x : ℕ) → previous_value (name_ticks s A x) (A x) (start_of s x) m ≡ previous_value (name_ticks s S x) (S x) (start_of s x) m
+  pub previous_is : (x : ℕ) → previous_value (name_ticks s A x) (A x) (start_of s x) m ≡ previous_value (name_ticks s S x) (S x) (start_of s x) m
   previous_is x = previous_same (name_ticks s A x) (name_ticks s S x) (A x) (S x) (start_of s x) m (λ j lt. ticks_before (class_of_name s x) j lt) (λ j lt. before x j lt)
 
   -- the last value at the moment: that of the row at a tick, else the one before

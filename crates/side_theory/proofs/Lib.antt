@@ -6,3 +6,4 @@ pub mod Counting
 pub mod Onward
 pub mod Taking
 pub mod Keeping
+pub mod Setting

@@ -1,6 +1,7 @@
 ghost use Rattle.side_theory.specs.Counted.{CountedLaw, OnwardLaw};
 ghost use Rattle.side_theory.specs.Kept.{SetLaw, KeepsLaw};
 ghost use Rattle.side_theory.specs.Runs.{RunLaw};
+ghost use Rattle.side_theory.specs.SetOn.{SetOnLaw};
 ghost use Rattle.side_theory.specs.Sides.{SideLaw};
 ghost use Rattle.side_theory.specs.Stretches.{StretchLaw};
 ghost use Rattle.side_theory.specs.Typed.{TypedLaw};
@@ -43,4 +44,9 @@ pub fn set_law()
 /// Cells that were set at a moment keep the last values before the next one.
 pub fn keeps_law()
     ensures { KeepsLaw }
+{}
+
+/// Cells that were set over a row are so over the row that a run of a stretch left.
+pub fn set_on_law()
+    ensures { SetOnLaw }
 {}
