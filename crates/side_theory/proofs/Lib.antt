@@ -5,3 +5,5 @@ pub mod Answering
 pub mod Counting
 pub mod Onward
 pub mod Taking
+pub mod Keeping
+pub mod Setting

@@ -1,5 +1,7 @@
 ghost use Rattle.side_theory.specs.Counted.{CountedLaw, OnwardLaw};
+ghost use Rattle.side_theory.specs.Kept.{SetLaw, KeepsLaw};
 ghost use Rattle.side_theory.specs.Runs.{RunLaw};
+ghost use Rattle.side_theory.specs.SetOn.{SetOnLaw};
 ghost use Rattle.side_theory.specs.Sides.{SideLaw};
 ghost use Rattle.side_theory.specs.Stretches.{StretchLaw};
 ghost use Rattle.side_theory.specs.Typed.{TypedLaw};
@@ -32,4 +34,19 @@ pub fn onward_law()
 /// Over cells that hold a row a run of the code of a stretch takes its uses, or tells the first that fails.
 pub fn run_law()
     ensures { RunLaw }
+{}
+
+/// Cells that are set for a moment hold what an equation of a class that ticks can read.
+pub fn set_law()
+    ensures { SetLaw }
+{}
+
+/// Cells that were set at a moment keep the last values before the next one.
+pub fn keeps_law()
+    ensures { KeepsLaw }
+{}
+
+/// Cells that were set over a row are so over the row that a run of a stretch left.
+pub fn set_on_law()
+    ensures { SetOnLaw }
 {}

@@ -6,4 +6,7 @@
 
 mod law;
 
-pub use law::{counted_law, onward_law, run_law, side_law, stretch_law, typed_law};
+pub use law::{
+    counted_law, keeps_law, onward_law, run_law, set_law, set_on_law, side_law, stretch_law,
+    typed_law,
+};
