@@ -1,5 +1,4 @@
-ghost use Rattle.std.specs.Prelude.{◌≡◌, ◌+◌, ◌*◌, ◌≤◌, length, map, vec_len, vec_capacity, All, IfOk};
-ghost use Rattle.std.specs.Borrow.{sem};
+ghost use Rattle.std.specs.Prelude.{◌≡◌, ◌≤◌, length, vec_capacity, All, IfOk};
 ghost use Rattle.flat_model.specs.Models.{IsName, size_limit};
 ghost use Rattle.flat_model.specs.Trace.{is_column, columns_of, header_text, row_text};
 ghost use Rattle.trace_print.specs.Room.{Room, row_len};
@@ -72,7 +71,7 @@ fn header_len(names: &[FlatName]) -> usize
     len
 }
 
-/// Takes room for the header of a model and for each row of its columns.
+/// Takes room for the header of a model and for each row of its columns. The conditions hold of each flat model.
 ///
 /// # Errors
 ///
@@ -129,7 +128,8 @@ impl Line {
     ghost use Rattle.std.specs.Borrow.{sem};
     ghost use Rattle.flat_model.specs.Trace.{header_text, row_text};
 
-    /// The header of a model: `time` and the names of its columns.
+    /// The header of a model: `time` and the names of its columns. The condition is that it fits the room of the line,
+    /// as it does after `reserve` for this model.
     pub fn header(&mut self, flat: &FlatModel) -> &[u8]
         requires { length (header_text flat.now.names) ≤ self.old.bytes }
         ensures* keeps { sem 𝓛 (KeepsRoom self.entry) }
@@ -140,6 +140,7 @@ impl Line {
     }
 
     /// The row of an instant: its time in seconds, and for each column the value, or nothing where it has none.
+    /// The condition is that there are as many values as columns.
     pub fn row(&mut self, at: Ratio, values: &[Option<Value>]) -> &[u8]
         requires { length values.now ≡ self.old.columns }
         ensures* keeps { sem 𝓛 (KeepsRoom self.entry) }

@@ -1,8 +1,6 @@
 //! The text of the clocks of a model.
-ghost use Rattle.std.specs.Prelude.{◌≡◌, ◌++◌, OnOk, IfOk};
-ghost use Rattle.std.specs.Option.{option_copied};
+ghost use Rattle.std.specs.Prelude.{◌≡◌, ◌++◌, OnOk, IfOk, slice_get};
 ghost use Rattle.trace_print.specs.Modes.{clock_in, ticks_text, clock_line, clock_lines, clocks_text};
-ghost use Rattle.std.specs.Prelude.{slice_get};
 
 use crate::no_memory::NoMemory;
 use crate::put::{put, put_instant, put_number};
