@@ -253,80 +253,95 @@ fn solved_sides(
     solved(tame(rt, alloc, left), tame(rt, alloc, right))
 }
 
-const fn whole(number: i64) -> Option<Result<Value, Fail>> {
-    Some(Ok(Value::Int(number)))
+/// A number, a failure, or an equation that is not solvable for name 0.
+#[derive(Clone, Copy)]
+enum Wanted {
+    Whole(i64),
+    Fails(Fail),
+    Unsolvable,
 }
 
-const LARGE: Option<Result<Value, Fail>> = Some(Err(Fail::TooLarge));
+fn wanted_answer(wanted: Wanted) -> Option<Result<Value, Fail>> {
+    match wanted {
+        Wanted::Whole(number) => Some(Ok(Value::Int(number))),
+        Wanted::Fails(kind) => Some(Err(kind)),
+        Wanted::Unsolvable => None,
+    }
+}
 
-const DIVIDE: Option<Result<Value, Fail>> = Some(Err(Fail::Divide));
+const LARGE: Wanted = Wanted::Fails(Fail::TooLarge);
+
+const DIVIDE: Wanted = Wanted::Fails(Fail::Divide);
 
 const MAX: i64 = i64::MAX;
 
 const MIN: i64 = i64::MIN;
 
+/// Two sides of an equation, and what it gives for name 0.
+const CASES: [(Side, Side, Wanted); 49] = [
+    // Each operator, on either side.
+    (Side::Own, Side::Number(5), Wanted::Whole(5)),
+    (Side::Number(5), Side::Own, Wanted::Whole(5)),
+    (Side::Plus(2), Side::Number(5), Wanted::Whole(3)),
+    (Side::PlusBehind(2), Side::Number(5), Wanted::Whole(3)),
+    (Side::Minus(2), Side::Number(5), Wanted::Whole(7)),
+    (Side::TakenFrom(2), Side::Number(5), Wanted::Whole(-3)),
+    (Side::Number(5), Side::TakenFrom(2), Wanted::Whole(-3)),
+    (Side::Opposite, Side::Number(5), Wanted::Whole(-5)),
+    // Nesting.
+    (Side::OppositeOfTaken(2), Side::Number(5), Wanted::Whole(7)),
+    (Side::Nested(10, 3), Side::Number(0), Wanted::Whole(7)),
+    (Side::Nested(10, 3), Side::Number(7), Wanted::Whole(0)),
+    (Side::Between(10, 3), Side::Number(0), Wanted::Whole(-7)),
+    (Side::WithOther, Side::Number(5), Wanted::Whole(-2)),
+    // `previous` of the name itself, which was 3.
+    (Side::Own, Side::Before(1), Wanted::Whole(4)),
+    (Side::FromBefore, Side::Number(5), Wanted::Whole(-2)),
+    (Side::TakenFrom(10), Side::Before(0), Wanted::Whole(7)),
+    // The edges of 64 bits.
+    (Side::Plus(0), Side::Number(MAX), Wanted::Whole(MAX)),
+    (Side::Plus(1), Side::Number(MIN), LARGE),
+    (Side::Plus(-1), Side::Number(MAX), LARGE),
+    (Side::Plus(1), Side::Number(MIN + 1), Wanted::Whole(MIN)),
+    (Side::Plus(MAX), Side::Number(-1), Wanted::Whole(MIN)),
+    (Side::Plus(MAX), Side::Number(-2), LARGE),
+    (Side::Plus(MIN), Side::Number(-1), Wanted::Whole(MAX)),
+    (Side::Plus(MIN), Side::Number(0), LARGE),
+    (Side::Minus(1), Side::Number(MAX), LARGE),
+    (Side::Minus(-1), Side::Number(MIN), LARGE),
+    (Side::Minus(MAX), Side::Number(MIN), Wanted::Whole(-1)),
+    (Side::Minus(MIN), Side::Number(MAX), Wanted::Whole(-1)),
+    (Side::TakenFrom(0), Side::Number(MIN), LARGE),
+    (Side::TakenFrom(-1), Side::Number(MIN), Wanted::Whole(MAX)),
+    (Side::TakenFrom(-1), Side::Number(MAX), Wanted::Whole(MIN)),
+    (Side::TakenFrom(-2), Side::Number(MAX), LARGE),
+    (Side::Opposite, Side::Number(MIN), LARGE),
+    (Side::Opposite, Side::Number(MAX), Wanted::Whole(-MAX)),
+    (Side::Number(MIN), Side::Opposite, LARGE),
+    // A step on the way that does not fit, though a later one would lead back.
+    (Side::Between(1, 1), Side::Number(MAX), LARGE),
+    (Side::Nested(MIN, 0), Side::Number(1), LARGE),
+    // Failures beside the way, the first in the order of the text.
+    (Side::WithQuotient(8, 2), Side::Number(5), Wanted::Whole(1)),
+    (Side::WithQuotient(1, 0), Side::Number(5), DIVIDE),
+    (Side::WithQuotient(1, 0), Side::Large, DIVIDE),
+    (Side::Large, Side::WithQuotient(1, 0), LARGE),
+    (Side::TwoFailures(1, 0), Side::Number(5), DIVIDE),
+    (Side::TwoFailures(1, 1), Side::ByZero, LARGE),
+    (Side::ByZero, Side::TwoFailures(1, 1), DIVIDE),
+    (Side::Own, Side::ByZero, DIVIDE),
+    (Side::Plus(1), Side::Large, LARGE),
+    // Not solvable: the name is on both sides, or on none.
+    (Side::Own, Side::Plus(1), Wanted::Unsolvable),
+    (Side::WithOther, Side::FromBefore, Wanted::Unsolvable),
+    (Side::Number(5), Side::Before(2), Wanted::Unsolvable),
+];
+
 #[test]
 fn solves_for_a_number(rt: HostRuntime) {
-    let cases = [
-        // Each operator, on either side.
-        (Side::Own, Side::Number(5), whole(5)),
-        (Side::Number(5), Side::Own, whole(5)),
-        (Side::Plus(2), Side::Number(5), whole(3)),
-        (Side::PlusBehind(2), Side::Number(5), whole(3)),
-        (Side::Minus(2), Side::Number(5), whole(7)),
-        (Side::TakenFrom(2), Side::Number(5), whole(-3)),
-        (Side::Number(5), Side::TakenFrom(2), whole(-3)),
-        (Side::Opposite, Side::Number(5), whole(-5)),
-        // Nesting.
-        (Side::OppositeOfTaken(2), Side::Number(5), whole(7)),
-        (Side::Nested(10, 3), Side::Number(0), whole(7)),
-        (Side::Nested(10, 3), Side::Number(7), whole(0)),
-        (Side::Between(10, 3), Side::Number(0), whole(-7)),
-        (Side::WithOther, Side::Number(5), whole(-2)),
-        // `previous` of the name itself, which was 3.
-        (Side::Own, Side::Before(1), whole(4)),
-        (Side::FromBefore, Side::Number(5), whole(-2)),
-        (Side::TakenFrom(10), Side::Before(0), whole(7)),
-        // The edges of 64 bits.
-        (Side::Plus(0), Side::Number(MAX), whole(MAX)),
-        (Side::Plus(1), Side::Number(MIN), LARGE),
-        (Side::Plus(-1), Side::Number(MAX), LARGE),
-        (Side::Plus(1), Side::Number(MIN + 1), whole(MIN)),
-        (Side::Plus(MAX), Side::Number(-1), whole(MIN)),
-        (Side::Plus(MAX), Side::Number(-2), LARGE),
-        (Side::Plus(MIN), Side::Number(-1), whole(MAX)),
-        (Side::Plus(MIN), Side::Number(0), LARGE),
-        (Side::Minus(1), Side::Number(MAX), LARGE),
-        (Side::Minus(-1), Side::Number(MIN), LARGE),
-        (Side::Minus(MAX), Side::Number(MIN), whole(-1)),
-        (Side::Minus(MIN), Side::Number(MAX), whole(-1)),
-        (Side::TakenFrom(0), Side::Number(MIN), LARGE),
-        (Side::TakenFrom(-1), Side::Number(MIN), whole(MAX)),
-        (Side::TakenFrom(-1), Side::Number(MAX), whole(MIN)),
-        (Side::TakenFrom(-2), Side::Number(MAX), LARGE),
-        (Side::Opposite, Side::Number(MIN), LARGE),
-        (Side::Opposite, Side::Number(MAX), whole(-MAX)),
-        (Side::Number(MIN), Side::Opposite, LARGE),
-        // A step on the way that does not fit, though a later one would lead back.
-        (Side::Between(1, 1), Side::Number(MAX), LARGE),
-        (Side::Nested(MIN, 0), Side::Number(1), LARGE),
-        // Failures beside the way, the first in the order of the text.
-        (Side::WithQuotient(8, 2), Side::Number(5), whole(1)),
-        (Side::WithQuotient(1, 0), Side::Number(5), DIVIDE),
-        (Side::WithQuotient(1, 0), Side::Large, DIVIDE),
-        (Side::Large, Side::WithQuotient(1, 0), LARGE),
-        (Side::TwoFailures(1, 0), Side::Number(5), DIVIDE),
-        (Side::TwoFailures(1, 1), Side::ByZero, LARGE),
-        (Side::ByZero, Side::TwoFailures(1, 1), DIVIDE),
-        (Side::Own, Side::ByZero, DIVIDE),
-        (Side::Plus(1), Side::Large, LARGE),
-        // Not solvable: the name is on both sides, or on none.
-        (Side::Own, Side::Plus(1), None),
-        (Side::WithOther, Side::FromBefore, None),
-        (Side::Number(5), Side::Before(2), None),
-    ];
-    for (left, right, wanted) in &cases {
-        assert!(rt; solved_sides(&rt, rt.alloc(), *left, *right) == *wanted);
+    for (left, right, wanted) in &CASES {
+        let answer = solved_sides(&rt, rt.alloc(), *left, *right);
+        assert!(rt; answer == wanted_answer(*wanted));
     }
 }
 
