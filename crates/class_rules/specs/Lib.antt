@@ -1,0 +1,2 @@
+pub mod N8
+pub mod N9
