@@ -28,7 +28,7 @@ use Rattle.side_theory.proofs.Keeping.{previous_is}
 use Rattle.side_theory.proofs.Side.{side_facts}
 
 -- what no use reaches does not change
-taken_other : (s : Setting) (S : Assignment) (m : ℕ) (entries : List Use) (row last : Row) → AreTaken s S m entries row last → (y : ℕ) → (IsReachedBy y entries → ⊥) → last y ≡ row y
+pub taken_other : (s : Setting) (S : Assignment) (m : ℕ) (entries : List Use) (row last : Row) → AreTaken s S m entries row last → (y : ℕ) → (IsReachedBy y entries → ⊥) → last y ≡ row y
 taken_other s S m [] row last taken y none = taken y
 taken_other s S m (entry ∷ entries) row last (next, inl (v, gives, is), rest) y none =
     taken_other s S m entries next last rest y (λ reached. none (inr reached)) ∙ is y ∙ not_put (y == entry.name) refl
@@ -43,7 +43,7 @@ kept_word t ls old new c v kept none h = (h.0, kept c h.0 none ∙ h.1)
 
 module _ (s : Setting) (uses before entries after : List Use) (ordered : IsOrdered s uses (before ++ (entries ++ after))) (class : ℕ) where
   -- the names of the uses are of the class
-  own_class : (some : List Use) (ls : List Line) → AreLinesOf s uses class some ls → (y : ℕ) → IsReachedBy y some → class_of_name s y ≡ Some class
+  pub own_class : (some : List Use) (ls : List Line) → AreLinesOf s uses class some ls → (y : ℕ) → IsReachedBy y some → class_of_name s y ≡ Some class
   own_class [] ls of y reached = absurd reached
   own_class (entry ∷ some) [] of y reached = absurd of
   own_class (entry ∷ some) (l ∷ ls) of y (inl is) = ap (class_of_name s) is ∙ (side_facts s uses ordered.runs ordered.uses_are.uses_are entry l.side class of.0.0 of.0.2).clocked
@@ -66,7 +66,7 @@ module _ (s : Setting) (uses before entries after : List Use) (ordered : IsOrder
           row_now S m row y ∙ sym (taken_other s S m entries row all.last all.taken y (λ reached. none-some class (sym (((facts_of s ordered.runs).unclocked site condition found).names y some) ∙ own_class entries ls of y reached)))
           ∙ sym (row_now S m all.last y)
 
-      ticks_same : (c : Option ℕ) → class_ticks s A c m ≡ class_ticks s B c m
+      pub ticks_same : (c : Option ℕ) → class_ticks s A c m ≡ class_ticks s B c m
       ticks_same c = class_ticks_by_site s A B c m same (site_same s A B m c (facts_of s ordered.runs).unclocked (site_value c))
 
       ticks : class_ticks s B (Some class) m ≡ true

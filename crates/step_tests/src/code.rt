@@ -1,4 +1,5 @@
 use flat_model::{Conversion, Expr, Fun};
+use part_stretches::{ClassStretch, PartFailing, run_stretches};
 use sqlite_items::Boxed;
 use std::alloc::Global;
 use std::process::Abort;
@@ -629,6 +630,63 @@ fn equations_run_up_to_the_first_that_fails(rt: HostRuntime) {
         cells[4] = *before;
         assert!(rt; fits(&stretch.code, cells.len()));
         assert!(rt; run_lines(&stretch, &mut cells) == *wanted);
+        for i in 0..3 {
+            assert!(rt; cells[i] == names[i]);
+        }
+    }
+}
+
+/// Which classes tick, the value of x0 at the tick before, the failure, and the cells of x0, x1 and x2 after the run.
+const MOMENTS: [([bool; 2], i64, Option<PartFailing>, [i64; 3]); 5] = [
+    ([true, true], 5, None, [6, 3, 1]),
+    ([true, false], 5, None, [6, 0, 1]),
+    // x0 keeps 7
+    ([false, true], 6, None, [7, 3, 1]),
+    ([false, false], 7, None, [7, 0, 1]),
+    (
+        [false, true],
+        7,
+        Some(PartFailing {
+            stretch: 1,
+            place: 0,
+            kind: Divide,
+        }),
+        [7, 0, 1],
+    ),
+];
+
+#[test]
+fn stretches_run_where_their_classes_tick(rt: HostRuntime) {
+    // x0 = 3 * 2 of class 0; x1 = div(3, x0 - previous(x0)) and x2 = not previous(x2) of class 1
+    let first = built(&rt, rt.alloc(), &[Number(3), Number(2), Join(Times, 2)]);
+    let difference = [
+        Number(3),
+        Now(0),
+        Previous(0),
+        Join(Minus, 2),
+        Call(Fun::Div, 2),
+    ];
+    let second = built(&rt, rt.alloc(), &difference);
+    let third = built(&rt, rt.alloc(), &[Previous(2), Not]);
+    let one = prepare_lines(rt.alloc(), &places(), &[line(0, &first)], FREE).expect(&rt, "code");
+    let others = [line(1, &second), line(2, &third)];
+    let two = prepare_lines(rt.alloc(), &places(), &others, FREE).expect(&rt, "code");
+    let stretches = [
+        ClassStretch {
+            class: 0,
+            stretch: one,
+        },
+        ClassStretch {
+            class: 1,
+            stretch: two,
+        },
+    ];
+    for (ticking, before, wanted, names) in &MOMENTS {
+        let mut cells = CELLS;
+        cells[4] = *before;
+        assert!(rt; fits(&stretches[0].stretch.code, cells.len()));
+        assert!(rt; fits(&stretches[1].stretch.code, cells.len()));
+        assert!(rt; run_stretches(&stretches, ticking, &mut cells) == *wanted);
         for i in 0..3 {
             assert!(rt; cells[i] == names[i]);
         }
