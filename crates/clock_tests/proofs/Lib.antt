@@ -1,0 +1,4 @@
+pub mod Constants
+pub mod Declared
+pub mod Steps
+pub mod Whole
