@@ -50,7 +50,9 @@ module _ (at : Cells) (t : ℕ) (ls : List Line) (marks : List ℕ) (views : Vie
         refl,
         stopped_kind new r.0 stop.kind kind stop.left r.1 stops,
         record { found = ap (λ p. slice_get ls p) (sym place) ∙ found.found; rest = ap (λ p. drop (suc p) ls) (sym place) ∙ found.rest },
-        subst (λ z. Holds at z t after) (sym cells) r.6, λ c below none. ap (λ z. word_at z c) cells ∙ r.7 c below none)
+        subst (λ z. Holds at z t after) (sym cells) r.6,
+        λ c below none. ap (λ z. word_at z c) cells ∙ r.7 c below none,
+      )
   ends Missing is stop runs r = tt
 
 -- what `run` did tells how the equations end
