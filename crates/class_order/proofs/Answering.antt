@@ -1,5 +1,5 @@
 -- No call has two answers.
-use Rattle.std.proofs.Common.{◌≡◌, ◌↔◌, refl, ap, sym, ◌∙◌, subst, ℕ, zero, suc, ◌<◌, ◌≤◌, Bool, true, false, List, Some, slice_get, arith}
+use Rattle.std.proofs.Common.{◌≡◌, refl, sym, subst, ℕ, zero, suc, ◌<◌, Bool, true, false, List, Some, slice_get, arith}
 use Rattle.mo_order.specs.Marks.{is_marked}
 use Rattle.mo_parser.specs.declared.tree.ClassDef.{ClassDef}
 use Rattle.class_scopes.specs.Reached.{IsReached}

@@ -1,5 +1,5 @@
 -- Marks of classes that have something in them, from those of their parts.
-use Rattle.std.proofs.Common.{◌≡◌, ◌↔◌, refl, ap, sym, ◌∙◌, subst, ℕ, zero, suc, ◌+◌, ◌<◌, ◌≤◌, ◌⊎◌, inl, inr, ◌||◌, Bool, true, false, List, [], ◌∷◌, length, Option, Some, None, slice_get, slice_set, Contains, arith}
+use Rattle.std.proofs.Common.{◌≡◌, ◌↔◌, refl, ap, sym, ◌∙◌, subst, ℕ, ◌+◌, ◌<◌, ◌≤◌, ◌⊎◌, inl, inr, ◌||◌, Bool, true, false, List, length, Option, Some, None, slice_get, slice_set, Contains, arith}
 use Rattle.std.specs.List.{list_any}
 use Rattle.std.proofs.lemmas.Bool.{cases_lt}
 use Rattle.std.proofs.lemmas.Option.{slice_get_within}
@@ -9,7 +9,7 @@ use Rattle.mo_parser.specs.declared.tree.ClassDef.{ClassDef}
 use Rattle.mo_parser.specs.declared.tree.Element.{Element}
 use Rattle.class_scopes.specs.declared.type_name.TypeName.{TypeName}
 use Rattle.class_scopes.specs.declared.type_name.TypeName.TheVariants.{Simple, Foreign, Class}
-use Rattle.class_scopes.specs.Reached.{HasPart, IsReached}
+use Rattle.class_scopes.specs.Reached.{HasPart}
 use Rattle.class_scopes.specs.Types.{type_of, elements_of, is_simple}
 use Rattle.class_order.specs.Content.{IsFilled, AreFilled}
 use Rattle.class_order.specs.Orders.{ArePartsFirst}

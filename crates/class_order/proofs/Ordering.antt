@@ -1,5 +1,5 @@
 -- An order of ranks, or the least rank on a cycle, tells of classes.
-use Rattle.std.proofs.Common.{◌≡◌, refl, ap, sym, ◌∙◌, subst, ℕ, zero, suc, ◌<◌, ◌≤◌, List, [], ◌∷◌, length, map, Option, Some, None, slice_get, Contains, arith}
+use Rattle.std.proofs.Common.{◌≡◌, refl, ap, sym, ◌∙◌, subst, ℕ, zero, suc, ◌<◌, ◌≤◌, List, length, map, Option, Some, None, slice_get, Contains, arith}
 use Rattle.std.proofs.lemmas.Option.{slice_get_within}
 use Rattle.mo_order.specs.Graphs.{Graph, IsEdge, Leads, IsWithin, IsOrder, IsLeastOnCycle}
 use Rattle.mo_order.proofs.Orders.{never_both}

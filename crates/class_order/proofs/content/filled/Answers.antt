@@ -1,4 +1,4 @@
-use Rattle.std.proofs.Common.{◌≡◌, ◌∙◌, ap, sym, subst, slice_get, slice_set, slice_index_or, length, ◌<◌, ◌+◌, arith}
+use Rattle.std.proofs.Common.{◌≡◌, ◌∙◌, ap, sym, subst, slice_set, slice_index_or, length, ◌+◌, arith}
 use Rattle.std.proofs.lemmas.Option.{slice_get-get_or}
 use Rattle.class_order.specs.private.Contents.{AreMarks, is_filled}
 use Rattle.class_order.proofs.Depthing.{ordered_below}

@@ -1,4 +1,4 @@
-use Rattle.std.proofs.Common.{◌≡◌, ◌∙◌, ap, sym, subst, ◌<◌, ◌≤◌, Some, arith, rules}
+use Rattle.std.proofs.Common.{◌∙◌, ap, sym, subst, ◌<◌, ◌≤◌, Some, arith}
 use Rattle.class_scopes.specs.Faults.{IsFirstOf}
 use Rattle.class_order.specs.N11 as N11
 use Rattle.class_order.specs.private.Depths.{depth_of}

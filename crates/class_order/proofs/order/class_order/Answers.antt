@@ -1,5 +1,5 @@
 use Rattle.std.proofs.Common.{◌≡◌, ◌∙◌, ap, sym, subst, map, length, Some, Err, rules}
-use Rattle.mo_order.specs.Graphs.{Graph, graph_of, IsWithin, IsOrder, IsLeastOnCycle, Orders}
+use Rattle.mo_order.specs.Graphs.{graph_of, IsWithin, IsOrder, IsLeastOnCycle, Orders}
 use Rattle.mo_order.specs.declared.search.OrderEnd.TheVariants.{Cycle}
 use Rattle.class_scopes.specs.Faults.{IsFirstOf, IsKept}
 use Rattle.class_order.specs.N4 as N4
