@@ -2,7 +2,7 @@
 ghost use Rattle.class_scopes.specs.Reached.{AreReached};
 
 use crate::texts::tree_of;
-use class_depths::{class_inside_itself, is_too_deep};
+use class_order::{class_order, too_deep};
 use class_rules::{refused_type, unfit_connect};
 use class_scopes::{NameCode, Named, RuleEnd, names};
 use scope_names::{Scopes, unknown_name};
@@ -11,11 +11,16 @@ use std::process::Abort;
 
 const LIMIT: usize = 1 << 20;
 
-/// A text, the chosen class, and the first broken rule of classes with its place: a byte of the text, and of N4 the number of
-/// the class.
+/// A text, the chosen class, and the first broken rule of classes with its place, a byte of the text.
 type Row = (&'static [u8], Option<&'static str>, Option<(NameCode, u32)>);
 
-const ROWS: [Row; 38] = [
+/// Each class but the first has a component of the one before it; the last, the 33rd, has components down to depth 33.
+const DEEP: &[u8] =
+    b"model A Integer x;end A;model B A x;end B;model C B x;end C;model D C x;end D;model E D x;end E;model F E x;end F;model G F x;end G;model H G x;end H;model I H x;end I;model J I x;end J;model K J x;end K;model L K x;end L;model M L x;end M;model N M x;end N;model O N x;end O;model P O x;end P;model Q P x;end Q;model R Q x;end R;model S R x;end S;model T S x;end T;model U T x;end U;model V U x;end V;model W V x;end W;model X W x;end X;model Y X x;end Y;model Z Y x;end Z;model a Z x;end a;model b a x;end b;model c b x;end c;model d c x;end d;model e d x;end e;model f e x;end f;model g f x;end g;";
+
+const ROWS: [Row; 40] = [
+    (DEEP, Some("f"), None),
+    (DEEP, None, Some((NameCode::N11, 588))),
     (b"", None, Some((NameCode::N1, 0))),
     (
         b"model M Integer x; end M;",
@@ -135,11 +140,11 @@ const ROWS: [Row; 38] = [
         None,
         Some((NameCode::N3, 48)),
     ),
-    // the first class that contains itself is told by its number, a class that is not reached does not count
+    // the first class that contains itself is told at its name, a class that is not reached does not count
     (
         b"model A B b; end A; model B A a; end B; model M B b; end M;",
         None,
-        Some((NameCode::N4, 0)),
+        Some((NameCode::N4, 6)),
     ),
     (b"model A A a; end A; model M Integer y; end M;", None, None),
     // connectors want the same members in the same order, a short connector one without a name
@@ -204,7 +209,7 @@ const ROWS: [Row; 38] = [
     (
         b"model A A a; equation connect(a, a); end A;",
         None,
-        Some((NameCode::N4, 0)),
+        Some((NameCode::N4, 6)),
     ),
 ];
 
@@ -218,19 +223,19 @@ fn first_of_scopes(
     if let Some(at) = unknown_name(alloc, scopes)? {
         return Ok(Some((NameCode::N3, at)));
     }
-    if let Some(class) = class_inside_itself(alloc, &scopes.named)? {
-        if class < LIMIT {
-            return Ok(Some((NameCode::N4, class as u32)));
-        }
-    }
+    let order = match class_order(alloc, &scopes.named) {
+        Ok(order) => order,
+        Err(RuleEnd::Broken(code, at)) => return Ok(Some((code, at))),
+        Err(RuleEnd::NoMemory) => return Err(AllocError),
+    };
     if let Some(at) = unfit_connect(scopes) {
         return Ok(Some((NameCode::N8, at)));
     }
     if let Some(at) = refused_type(&scopes.named) {
         return Ok(Some((NameCode::N9, at)));
     }
-    if is_too_deep(alloc, &scopes.named)? {
-        return Ok(Some((NameCode::N11, 0)));
+    if let Some(at) = too_deep(alloc, &scopes.named, order.as_slice())? {
+        return Ok(Some((NameCode::N11, at)));
     }
     Ok(None)
 }

@@ -1,3 +1,0 @@
-pub mod N11
-pub mod N4
-pub mod private
