@@ -1,0 +1,5 @@
+//! Tests of the order of classes.
+#![tactic(auto)]
+
+#[cfg(test)]
+mod orders;
