@@ -1,6 +1,7 @@
-//! The expressions of instances as those of a flat model whose types are not known yet.
+//! The expressions and equations of instances as those of a flat model whose types are not known yet.
 #![tactic(auto)]
 
+mod equations;
 mod expressions;
 mod nodes;
 mod spellings;
