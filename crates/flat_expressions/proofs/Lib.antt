@@ -1,0 +1,4 @@
+pub mod Dots
+pub mod Groups
+pub mod Shapes
+pub mod Tellings

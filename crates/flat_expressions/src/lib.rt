@@ -1,0 +1,9 @@
+//! The expressions and equations of instances as those of a flat model whose types are not known yet.
+#![tactic(auto)]
+
+mod equations;
+mod expressions;
+mod nodes;
+mod spellings;
+
+pub use expressions::Teller;
