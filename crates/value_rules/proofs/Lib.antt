@@ -1,0 +1,4 @@
+pub mod Dots
+pub mod Evaluated
+pub mod Lacking
+pub mod Reading
