@@ -1,3 +1,5 @@
+pub mod Closed
+pub mod Complete
 pub mod Cycles
 pub mod Dots
 pub mod Evaluated
@@ -5,4 +7,5 @@ pub mod Failing
 pub mod Lacking
 pub mod Positions
 pub mod Reading
+pub mod Verdicts
 pub mod Waiting

@@ -32,9 +32,10 @@ found_at t i (x ∷ xs) k is = by (t x) refl is (found_at t (i + 1) xs k)
 
 pub none_at : {A : Type 0} (t : A → Bool) (i : ℕ) (xs : List A) → position_from t i xs ≡ None → (m : ℕ) (y : A) → slice_get xs m ≡ Some y → t y ≡ true → ⊥
 none_at t i [] is m y at ok = cc at
-none_at t i (x ∷ xs) is m y at ok = by (t x) refl is m at
+none_at t i (x ∷ xs) is m y at ok = by (t x) refl is m at (none_at t (i + 1) xs)
   where
-    by : (b : Bool) → t x ≡ b → cond b (Some i) (position_from t (i + 1) xs) ≡ None → (m : ℕ) → slice_get (x ∷ xs) m ≡ Some y → ⊥
-    by true e is m at = cc is
-    by false e is zero at = let same : x ≡ y = cc at in cc (sym e ∙ ap t same ∙ ok)
-    by false e is (suc m) at = none_at t (i + 1) xs is m y at ok
+    by : (b : Bool) → t x ≡ b → cond b (Some i) (position_from t (i + 1) xs) ≡ None → (m : ℕ) → slice_get (x ∷ xs) m ≡ Some y
+        → (position_from t (i + 1) xs ≡ None → (m : ℕ) (y : _) → slice_get xs m ≡ Some y → t y ≡ true → ⊥) → ⊥
+    by true e is m at again = cc is
+    by false e is zero at again = let same : x ≡ y = cc at in cc (sym e ∙ ap t same ∙ ok)
+    by false e is (suc m) at again = again is m y at ok

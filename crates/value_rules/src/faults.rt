@@ -53,11 +53,15 @@ pub fn value_fault(
         numbers,
         slots: found,
     };
-    match first_waiting(&values, parameters)? {
+    let waiting = first_waiting(&values, parameters)?;
+    match waiting {
         Some(x) => Ok(Some(ValueFault::Waiting(x))),
-        None => match first_failing(&values, parameters.len(), variables)? {
-            Some(x) => Ok(Some(ValueFault::Failing(x))),
-            None => Ok(None),
-        },
+        None => {
+            let failing = first_failing(&values, parameters.len(), variables)?;
+            match failing {
+                Some(x) => Ok(Some(ValueFault::Failing(x))),
+                None => Ok(None),
+            }
+        }
     }
 }
