@@ -1,0 +1,11 @@
+pub mod Closed
+pub mod Complete
+pub mod Cycles
+pub mod Dots
+pub mod Evaluated
+pub mod Failing
+pub mod Lacking
+pub mod Positions
+pub mod Reading
+pub mod Verdicts
+pub mod Waiting

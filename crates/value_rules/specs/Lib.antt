@@ -1,0 +1,3 @@
+pub mod N6
+pub mod N7
+pub mod private
