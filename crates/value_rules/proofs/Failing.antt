@@ -54,6 +54,7 @@ module _ (text : List ℕ) (classes : List ClassDef) (all : List Variable) (tabl
             let at = misses_read text classes all table found count is_table many l.expr y m in
             let none = subst (λ z. Contains z y) (sym l.same) at in omega (arith, none.1);
       }
+
       by : (m : Option (List ℕ)) → missing_for text table found count k placed ≡ m → reads_none text table found count m ≡ true → Stands k placed
       by None at is = absurd (cc is)
       by (Some []) at is = lacking (lacks_reads text classes table found count k placed [] at)
@@ -95,8 +96,10 @@ module _ (text : List ℕ) (classes : List ClassDef) (all : List Variable) (tabl
             lacks = N7.Lacks.own s.expr o.0 o.1 (ap (value_by text classes values (kind_of text classes v.type)) (sym (is_own v o.0)) ∙ s.none);
             reads = s.reads;
           }
+
       start : Stands (kind_of text classes v.type) v.start → N7.FailsAt text classes all values x
       start s = record { v = v; expr = s.expr; stands = at; lacks = N7.Lacks.start s.expr s.there s.none; reads = s.reads }
+
       by : (b : Bool) → fails text table found count (kind_of text classes v.type, own_expr text classes v) ≡ b
           → b || fails text table found count (kind_of text classes v.type, v.start) ≡ true → N7.FailsAt text classes all values x
       by true e is = own (fails_stands (kind_of text classes v.type) (own_expr text classes v) e)
@@ -133,6 +136,6 @@ module _ (text : List ℕ) (classes : List ClassDef) (all : List Variable) (tabl
         → place ≡ position_from (failing text table found count) 0 kept → IsFirstPlace (N7.Breaks text classes all) place
     first_failing kept same place is =
         by_place place (sym (
-          is ∙ sym (position_map needed (either_fails text table found count) 0 kept)
-          ∙ ap (position_from (either_fails text table found count) 0) same
-          ∙ position_map (needs_of text classes) (either_fails text table found count) 0 all))
+        is ∙ sym (position_map needed (either_fails text table found count) 0 kept)
+        ∙ ap (position_from (either_fails text table found count) 0) same
+        ∙ position_map (needs_of text classes) (either_fails text table found count) 0 all))

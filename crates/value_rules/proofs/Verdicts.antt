@@ -52,6 +52,8 @@ module _ (text : List ℕ) (table : Numbered) (found : Slots) (items : List Valu
       pub is_kept : first ≡ None → IsFirstFault text table items found (map needed kept) None
       is_kept here classes all is_table same needs are =
           let many = counted classes all same in
-          let none : IsKept (N7.Breaks text classes all) = first_failing text classes all table found count is_table many are kept needs None (sym here ∙ at) in
-          (no_waiting classes all is_table same are, none,
-          λ typed. has_all text classes all table found count is_table many are items same order is typed (λ x fails. none x (seen table found, are, fails)))
+          let none : IsKept (N7.Breaks text classes all) = first_failing text classes all table found count is_table many are kept needs None (sym here ∙ at) in (
+            no_waiting classes all is_table same are,
+            none,
+            λ typed. has_all text classes all table found count is_table many are items same order is typed (λ x fails. none x (seen table found, are, fails)),
+          )
