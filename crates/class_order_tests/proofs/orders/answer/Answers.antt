@@ -1,4 +1,4 @@
-use Rattle.std.proofs.Common.{option_map, None}
+use Rattle.std.proofs.Common.{None}
 use Rattle.class_scopes.specs.Reached.{chosen_by}
 use Rattle.class_order_tests.proofs.Reaches.{reaches}
 use Rattle.class_order_tests.proofs.orders.answer.Goals as goal
