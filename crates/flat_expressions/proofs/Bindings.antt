@@ -1,13 +1,13 @@
 -- Bindings as equations.
-use Rattle.std.proofs.Common.{◌≡◌, refl, ap, ◌∙◌, sym, subst, ℕ, ◌++◌, List, [], ◌∷◌, map, Bool, true, false, Option, Some, None}
+use Rattle.std.proofs.Common.{◌≡◌, refl, ap, ◌∙◌, sym, ℕ, ◌++◌, List, [], ◌∷◌, map, Bool, true, false, Option, Some, None}
 use Rattle.flat_model.specs.declared.raw.RawExpr.{RawExpr}
 use Rattle.flat_model.specs.declared.raw.RawEq.{RawEq}
 use Rattle.class_scopes.specs.Spelled.{Ident}
 use Rattle.flat_instances.specs.Instances.{Placed}
 use Rattle.parameter_values.specs.Values.{Values}
 use Rattle.flat_expressions.specs.Expressions.{NumberOf, name_by, expr_of}
-use Rattle.flat_expressions.specs.Equations.{Sides, sides, Group, Alone, in_clause, Adds, binding_sides}
-use Rattle.flat_expressions.proofs.Groups.{append_none, adds_none, adds_alone}
+use Rattle.flat_expressions.specs.Equations.{sides, Alone, in_clause, Adds, binding_sides}
+use Rattle.flat_expressions.proofs.Groups.{append_none}
 
 module _ (text : List ℕ) (values : Values) (number : NumberOf) (name : Ident) where
   fixed_none : (fixed : Bool) (binding : Option Placed) → fixed ≡ true → binding_sides text values number fixed name binding ≡ []

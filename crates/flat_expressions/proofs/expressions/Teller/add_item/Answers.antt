@@ -1,4 +1,4 @@
-use Rattle.std.proofs.Common.{◌≡◌, ◌∙◌, ap, ap₂, sym, subst, ◌+◌, ◌<◌, ◌^◌, OnOk, length}
+use Rattle.std.proofs.Common.{◌∙◌, ap, ap₂, sym, subst, ◌+◌, ◌<◌, ◌^◌, OnOk, length}
 use Rattle.class_scopes.specs.Tables.{number_of}
 use Rattle.flat_instances.specs.Kept as kept
 use Rattle.parameter_values.specs.private.Slots.{seen}

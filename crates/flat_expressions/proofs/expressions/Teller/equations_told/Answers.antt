@@ -1,4 +1,4 @@
-use Rattle.std.proofs.Common.{◌≡◌, ◌∙◌, ap, sym, subst, [], ◌<◌, ◌≤◌, ◌^◌, length, arith}
+use Rattle.std.proofs.Common.{◌∙◌, ap, sym, subst, [], ◌<◌, ◌≤◌, ◌^◌, length, arith}
 use Rattle.std.proofs.lemmas.List.Folds.{flat_map-map}
 use Rattle.class_scopes.specs.Tables.{number_of}
 use Rattle.flat_instances.specs.Kept as kept

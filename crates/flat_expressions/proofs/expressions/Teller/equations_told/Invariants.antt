@@ -1,4 +1,4 @@
-use Rattle.std.proofs.Common.{[], flat_map, map, take}
+use Rattle.std.proofs.Common.{[], flat_map, take}
 use Rattle.class_scopes.specs.Tables.{number_of}
 use Rattle.flat_instances.specs.Kept as kept
 use Rattle.parameter_values.specs.private.Slots.{seen}
