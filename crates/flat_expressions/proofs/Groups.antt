@@ -21,7 +21,7 @@ equations_append k (Clause clock inside ∷ xs) ys =
     ∙ sym (append_assoc (map (in_clause (Some k)) inside) (equations_from (suc k) xs) (equations_from (suc k + length (clocks_of xs)) ys))
     ∙ ap (λ n. (map (in_clause (Some k)) inside ++ equations_from (suc k) xs) ++ equations_from n ys) next
 
-append_none : {A : Type 0} (xs : List A) → xs ≡ xs ++ []
+pub append_none : {A : Type 0} (xs : List A) → xs ≡ xs ++ []
 append_none [] = refl
 append_none (x ∷ xs) = ap (λ t. x ∷ t) (append_none xs)
 
@@ -86,6 +86,11 @@ module _ {A : Type 0} (f : A → List Group) where
         let whole : length (clocks_of (flat_map f xs)) ≡ length (flat_map g xs) = ap length (clocks_flat xs) in
         let count : length several ≡ length clauses + length (clocks_of (flat_map f (take i xs))) = ap length so_far ∙ length-append clauses (clocks_of (flat_map f (take i xs))) in
         omega (arith, part, here, front, whole, count, few)
+
+    -- the same from no clauses on
+    pub first_few : (several : List RawExpr) → several ≡ [] ++ clocks_of (flat_map f (take i xs))
+        → length (clocks_of (flat_map f xs)) < 2 ^ 32 → length several + length (clocks_of (f x)) < 2 ^ 32
+    first_few several so_far few = still_few [] several so_far (omega (arith, few))
 
 pub adds_all : {A : Type 0} (f : A → List Group) (xs : List A) (i : ℕ) (equations all : List RawEq) (clauses every : List RawExpr) → length xs ≤ i
     → Adds equations clauses (flat_map f (take i xs)) all every → Adds equations clauses (flat_map f xs) all every

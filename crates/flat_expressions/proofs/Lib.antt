@@ -1,4 +1,5 @@
 pub mod Dots
 pub mod Groups
+pub mod Bindings
 pub mod Shapes
 pub mod Tellings

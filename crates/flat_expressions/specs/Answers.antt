@@ -1,5 +1,5 @@
 -- Answers that follow from those of parts.
-use Rattle.std.specs.Prelude.{◌≡◌, ℕ, ◌<◌, ◌^◌, Option, Some, Result, IfOk}
+use Rattle.std.specs.Prelude.{◌≡◌, ℕ, ◌<◌, ◌^◌, Some, Result, IfOk}
 use Rattle.std.specs.declared.alloc.AllocError.{AllocError}
 use Rattle.class_scopes.specs.Spelled.{Ident}
 use Rattle.class_scopes.specs.Tables.{Numbered, number_of}

@@ -1,5 +1,6 @@
 -- The equations of a flat model and its clauses, from those of instances. MLS 3.6, chapter 5, "Flattening Process", in this project's profile.
-use Rattle.std.specs.Prelude.{◌≡◌, ℕ, suc, List, [], ◌∷◌, ◌++◌, length, map, flat_map, Option, Some, None}
+use Rattle.std.specs.Prelude.{◌≡◌, ℕ, suc, List, [], ◌∷◌, ◌++◌, length, map, flat_map, Option, Some, None, Bool, true, false}
+use Rattle.mo_parser.specs.declared.tree.ClassDef.{ClassDef}
 use Rattle.mo_parser.specs.declared.tree.TreeEq.{TreeEq}
 use Rattle.mo_parser.specs.declared.tree.TreeEq.TheOpen.{TreeEq-F}
 use Rattle.mo_parser.specs.declared.tree.TreeEq.TheViews.{out-TreeEq}
@@ -7,8 +8,10 @@ use Rattle.mo_parser.specs.declared.tree.TreeExpr.{TreeExpr}
 use Rattle.flat_model.specs.declared.raw.RawExpr.{RawExpr}
 use Rattle.flat_model.specs.declared.raw.RawEq.{RawEq}
 use Rattle.class_scopes.specs.Spelled.{Ident}
-use Rattle.parameter_values.specs.Values.{Values}
-use Rattle.flat_expressions.specs.Expressions.{NumberOf, expr_of}
+use Rattle.class_scopes.specs.Types.{class_equations}
+use Rattle.flat_instances.specs.Instances.{Placed, Item, Declared, Own}
+use Rattle.parameter_values.specs.Values.{Values, is_parameter}
+use Rattle.flat_expressions.specs.Expressions.{NumberOf, name_by, expr_of}
 
 -- the two sides of an equation
 pub record Sides : Type 0 where
@@ -73,3 +76,17 @@ module _ (text : List ℕ) (values : Values) (number : NumberOf) where
 
   abbrev pub groups_in : Ident → List TreeEq → List Group
   groups_in scope equations = flat_map (groups_at scope) equations
+
+  -- the binding of a variable is an equation; that of a parameter or constant is none
+  abbrev pub binding_sides : Bool → Ident → Option Placed → List Sides
+  binding_sides fixed name None = []
+  binding_sides true name (Some placed) = []
+  binding_sides false name (Some placed) = sides (name_by text values number name) (expr_of text values number placed.scope placed.expr) ∷ []
+
+  -- what an item of instances stands for: the binding of a variable, or the equations of a class
+  abbrev pub groups_of : List ClassDef → Item → List Group
+  groups_of classes (Declared v) = map Alone (binding_sides (is_parameter v) v.name v.binding)
+  groups_of classes (Own scope class) = groups_in scope (class_equations text classes class)
+
+  abbrev pub groups : List ClassDef → List Item → List Group
+  groups classes items = flat_map (groups_of classes) items

@@ -13,7 +13,7 @@ use std::alloc::AllocError;
 use sync_values::List;
 
 /// An equation of two sides that are told, or for which memory was refused.
-fn equation_of(
+pub fn equation_of(
     left: Result<RawExpr, AllocError>,
     right: Result<RawExpr, AllocError>,
     clause: Option<u32>,

@@ -3,7 +3,9 @@
 
 mod equations;
 mod expressions;
+mod items;
 mod nodes;
 mod spellings;
 
 pub use expressions::Teller;
+pub use items::Told;
