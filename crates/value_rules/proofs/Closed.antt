@@ -63,6 +63,7 @@ module _ (text : List ℕ) (classes : List ClassDef) (all : List Variable) (valu
           let s = find_stands (λ v. is_parameter v && bytes_eq name v.name) all p at in
           let same : name ≡ p.name = (bytes_eq-Decides name p.name).0 (and_right (is_parameter p) (bytes_eq name p.name) s.2) in
           ap (at_height n) same ∙ up s.0 p s.1 w (sym (ap values same) ∙ is)
+
       by : (m : ℕ) → at_height m name ≡ Some w → at_height n name ≡ Some w
       by zero e = absurd (cc e)
       by (suc m) e = par m (parameter_named text classes all name) refl e

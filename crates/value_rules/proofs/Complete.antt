@@ -81,11 +81,13 @@ module _ (text : List ℕ) (classes : List ClassDef) (all : List Variable) (tabl
       where
         stands : (x : ℕ) × (slice_get all x ≡ Some one) × (is_parameter one ≡ true)
         stands = filter_stands is_parameter all y one at
+
         with_reads : (expr : Placed) → value_expr text classes one ≡ Some expr
             → ((y : ℕ) → N6.Misses text classes all values expr y → ⊥) ⊎ ((y : ℕ) × N6.Misses text classes all values expr y) → (z : ℕ) × N6.WaitsFor text classes all values y z
         with_reads expr there (inl free) =
             absurd (none stands.0 (record { v = one; expr = expr; stands = stands.1; lacks = N7.Lacks.own expr stands.2 there lacks; reads = free }))
         with_reads expr there (inr m) = (m.0, record { one = one; expr = expr; stands = at; valued = there; none = lacks; misses = m.1 })
+
         with_expr : (o : Option Placed) → value_expr text classes one ≡ o → (z : ℕ) × N6.WaitsFor text classes all values y z
         with_expr None there = absurd (typed stands.0 one stands.1 stands.2 (sym (ap (value_by text classes values (kind_of text classes one.type)) there) ∙ lacks))
         with_expr (Some expr) there = with_reads expr there (decide expr)

@@ -1,10 +1,10 @@
 -- N7, from the first variable of which something fails.
-use Rattle.std.proofs.Common.{◌≡◌, refl, ap, sym, ◌∙◌, subst, ℕ, zero, suc, ◌≤◌, Bool, true, false, ◌||◌, if◌then◌else◌, List, [], ◌∷◌, length, map, Option, Some, None, slice_get, Contains, arith}
+use Rattle.std.proofs.Common.{◌≡◌, refl, ap, sym, ◌∙◌, subst, ℕ, Bool, true, false, ◌||◌, if◌then◌else◌, List, [], ◌∷◌, length, map, Option, Some, None, slice_get, Contains, arith}
 use Rattle.std.specs.List.{position_from}
 use Rattle.mo_order.specs.Values.{Slots}
 use Rattle.mo_parser.specs.declared.tree.ClassDef.{ClassDef}
 use Rattle.flat_model.specs.declared.model.NameKind.{NameKind}
-use Rattle.class_scopes.specs.Faults.{IsFirstOf, IsKept, IsFirstPlace}
+use Rattle.class_scopes.specs.Faults.{IsFirstOf, IsFirstPlace}
 use Rattle.class_scopes.specs.Tables.{Numbered}
 use Rattle.class_scopes.specs.Types.{kind_of}
 use Rattle.flat_instances.specs.Instances.{Placed, Variable}
@@ -13,11 +13,12 @@ use Rattle.parameter_values.specs.private.Slots.{seen, IsTableOfParameters}
 use Rattle.value_rules.specs.declared.missing.Needs.{Needs as KeptNeeds}
 use Rattle.value_rules.specs.N6 as N6
 use Rattle.value_rules.specs.N7 as N7
-use Rattle.value_rules.specs.private.Missing.{missing_reads, missing_for, reads_none, fails, either_fails, failing, needed, needs_of, own_expr}
+use Rattle.value_rules.specs.private.Missing.{missing_reads, missing_for, reads_none, fails, either_fails, failing}
+use Rattle.value_rules.specs.Needs.{needed, needs_of, own_expr}
 use Rattle.value_rules.proofs.Lacking.{IsLacking, lacks_reads, reads_lacks}
 use Rattle.value_rules.proofs.Reading.{read_misses, misses_read}
 use Rattle.value_rules.proofs.Cycles.{same_values}
-use Rattle.value_rules.proofs.Positions.{IsFirst, position_map, found_at, none_at}
+use Rattle.value_rules.proofs.Positions.{position_map, found_at, none_at}
 
 either : (a b : Bool) → a || b ≡ true → (b ≡ true → a ≡ true) → a ≡ true
 either true b is from = refl
@@ -54,6 +55,7 @@ module _ (text : List ℕ) (classes : List ClassDef) (all : List Variable) (tabl
             let at = misses_read text classes all table found count is_table many l.expr y m in
             let none = subst (λ z. Contains z y) (sym l.same) at in omega (arith, none.1);
       }
+
       by : (m : Option (List ℕ)) → missing_for text table found count k placed ≡ m → reads_none text table found count m ≡ true → Stands k placed
       by None at is = absurd (cc is)
       by (Some []) at is = lacking (lacks_reads text classes table found count k placed [] at)
@@ -95,8 +97,10 @@ module _ (text : List ℕ) (classes : List ClassDef) (all : List Variable) (tabl
             lacks = N7.Lacks.own s.expr o.0 o.1 (ap (value_by text classes values (kind_of text classes v.type)) (sym (is_own v o.0)) ∙ s.none);
             reads = s.reads;
           }
+
       start : Stands (kind_of text classes v.type) v.start → N7.FailsAt text classes all values x
       start s = record { v = v; expr = s.expr; stands = at; lacks = N7.Lacks.start s.expr s.there s.none; reads = s.reads }
+
       by : (b : Bool) → fails text table found count (kind_of text classes v.type, own_expr text classes v) ≡ b
           → b || fails text table found count (kind_of text classes v.type, v.start) ≡ true → N7.FailsAt text classes all values x
       by true e is = own (fails_stands (kind_of text classes v.type) (own_expr text classes v) e)
@@ -133,6 +137,6 @@ module _ (text : List ℕ) (classes : List ClassDef) (all : List Variable) (tabl
         → place ≡ position_from (failing text table found count) 0 kept → IsFirstPlace (N7.Breaks text classes all) place
     first_failing kept same place is =
         by_place place (sym (
-          is ∙ sym (position_map needed (either_fails text table found count) 0 kept)
-          ∙ ap (position_from (either_fails text table found count) 0) same
-          ∙ position_map (needs_of text classes) (either_fails text table found count) 0 all))
+        is ∙ sym (position_map needed (either_fails text table found count) 0 kept)
+        ∙ ap (position_from (either_fails text table found count) 0) same
+        ∙ position_map (needs_of text classes) (either_fails text table found count) 0 all))

@@ -1,10 +1,10 @@
 -- What is found of the graph and of the variables is the first broken rule.
-use Rattle.std.proofs.Common.{◌≡◌, refl, ap, sym, ◌∙◌, ℕ, List, length, map, Option, Some, None}
+use Rattle.std.proofs.Common.{◌≡◌, ap, sym, ◌∙◌, ℕ, List, length, map, Option, Some, None}
 use Rattle.std.specs.List.{position_from}
 use Rattle.mo_order.specs.Graphs.{Graph, IsOrder, IsLeastOnCycle}
 use Rattle.mo_order.specs.Values.{Slots}
 use Rattle.mo_parser.specs.declared.tree.ClassDef.{ClassDef}
-use Rattle.class_scopes.specs.Faults.{IsKept, IsFirstPlace}
+use Rattle.class_scopes.specs.Faults.{IsKept}
 use Rattle.class_scopes.specs.Tables.{Numbered}
 use Rattle.flat_instances.specs.Instances.{Variable}
 use Rattle.parameter_values.specs.Values.{AreValues}
@@ -14,8 +14,9 @@ use Rattle.value_rules.specs.declared.missing.Needs.{Needs as KeptNeeds}
 use Rattle.value_rules.specs.declared.faults.ValueFault.TheVariants.{Waiting, Failing}
 use Rattle.value_rules.specs.N6 as N6
 use Rattle.value_rules.specs.N7 as N7
-use Rattle.value_rules.specs.private.Faults.{IsFirstFault}
-use Rattle.value_rules.specs.private.Missing.{waiting, failing, needed, needs_of}
+use Rattle.value_rules.specs.Faults.{IsFirstFault}
+use Rattle.value_rules.specs.private.Missing.{waiting, failing}
+use Rattle.value_rules.specs.Needs.{needed}
 use Rattle.value_rules.proofs.Complete.{has_all}
 use Rattle.value_rules.proofs.Cycles.{first_waiting, none_waiting}
 use Rattle.value_rules.proofs.Failing.{first_failing}
@@ -52,6 +53,8 @@ module _ (text : List ℕ) (table : Numbered) (found : Slots) (items : List Valu
       pub is_kept : first ≡ None → IsFirstFault text table items found (map needed kept) None
       is_kept here classes all is_table same needs are =
           let many = counted classes all same in
-          let none : IsKept (N7.Breaks text classes all) = first_failing text classes all table found count is_table many are kept needs None (sym here ∙ at) in
-          (no_waiting classes all is_table same are, none,
-          λ typed. has_all text classes all table found count is_table many are items same order is typed (λ x fails. none x (seen table found, are, fails)))
+          let none : IsKept (N7.Breaks text classes all) = first_failing text classes all table found count is_table many are kept needs None (sym here ∙ at) in (
+            no_waiting classes all is_table same are,
+            none,
+            λ typed. has_all text classes all table found count is_table many are items same order is typed (λ x fails. none x (seen table found, are, fails)),
+          )

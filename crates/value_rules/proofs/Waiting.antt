@@ -1,5 +1,5 @@
 -- The graph of parameters that wait for each other.
-use Rattle.std.proofs.Common.{◌≡◌, refl, ap, sym, ◌∙◌, subst, ℕ, zero, suc, ◌<◌, Bool, true, false, List, [], ◌∷◌, length, map, Option, Some, None, option_map, is_some, not, slice_get, Contains, arith}
+use Rattle.std.proofs.Common.{◌≡◌, refl, ap, sym, ◌∙◌, subst, ℕ, ◌<◌, Bool, true, false, List, length, map, Option, Some, None, option_map, is_some, not, slice_get, Contains, arith}
 use Rattle.std.proofs.lemmas.Option.{slice_get_within, slice_get-get_or, get_or_from_slice_get, slice_get-map}
 use Rattle.mo_order.specs.Graphs.{Graph, IsEdge, IsWithin}
 use Rattle.mo_order.specs.Values.{Slots}
@@ -41,6 +41,7 @@ module _ (text : List ℕ) (table : Numbered) (slots : Slots) (count : ℕ) wher
           let there = waits_below item.0 item.1 y (subst (λ l. Contains l y) (sym is) (listed edge.links edge.at y edge.to)) in
           let long = long_map (waiting text table slots count) items in
           omega (arith, there, long, many)
+
       by : (o : Option Valued) → option_map (waiting text table slots count) o ≡ Some edge.links → y < length (map (waiting text table slots count) items)
       by None is = absurd (cc is)
       by (Some item) is = let e : waiting text table slots count item ≡ edge.links = cc is in below item e
@@ -75,11 +76,13 @@ module _ (text : List ℕ) (classes : List ClassDef) (all : List Variable) (tabl
         misses = read_misses text classes all table found count is_table many l.expr y
             (subst (λ z. Contains z y) (sym is ∙ l.same) (listed edge.links edge.at y edge.to));
       }
+
       with_links : (v : Variable) → slice_get (N6.parameters text classes all) x ≡ Some v → (m : Option (List ℕ))
           → missing_for text table found count (kind_of text classes v.type) (value_expr text classes v) ≡ m
           → or_none text table found count m ≡ edge.links → N6.WaitsFor text classes all values x y
       with_links v at None m is = absurd (let there = subst (λ z. Contains z y) (sym is) (listed edge.links edge.at y edge.to) in omega (arith, there.1))
       with_links v at (Some reads) m is = lacking v at reads (lacks_reads text classes table found count (kind_of text classes v.type) (value_expr text classes v) reads m) is
+
       by : (o : Option Variable) → slice_get (N6.parameters text classes all) x ≡ o → option_map wait (option_map (valued_of text classes) o) ≡ Some edge.links
           → N6.WaitsFor text classes all values x y
       by None at is = absurd (cc is)

@@ -2,7 +2,9 @@
 #![tactic(auto)]
 
 mod faults;
+mod law;
 mod missing;
 
 pub use faults::{ValueFault, value_fault};
+pub use law::value_law;
 pub use missing::Needs;
