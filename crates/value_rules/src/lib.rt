@@ -4,6 +4,8 @@
 mod faults;
 mod law;
 mod missing;
+#[cfg(test)]
+mod tests;
 
 pub use faults::{ValueFault, value_fault};
 pub use law::value_law;
