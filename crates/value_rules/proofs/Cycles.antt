@@ -1,5 +1,5 @@
 -- N6, from an order of the parameters or the least number on a cycle.
-use Rattle.std.proofs.Common.{◌≡◌, refl, sym, ◌∙◌, subst, ℕ, ◌≤◌, List, Option, Some, None}
+use Rattle.std.proofs.Common.{◌≡◌, refl, sym, subst, ℕ, List, Option, Some, None}
 use Rattle.std.proofs.Math.Path.{fun_ext}
 use Rattle.sync_values.specs.declared.value.Value.{Value}
 use Rattle.mo_order.specs.Graphs.{Graph, IsEdge, Leads, IsOrder, IsLeastOnCycle}
@@ -8,7 +8,6 @@ use Rattle.mo_parser.specs.declared.tree.ClassDef.{ClassDef}
 use Rattle.class_scopes.specs.Faults.{IsFirstOf, IsKept}
 use Rattle.flat_instances.specs.Instances.{Variable}
 use Rattle.parameter_values.specs.Values.{Values, AreValues}
-use Rattle.class_scopes.specs.Spelled.{Ident}
 use Rattle.value_rules.specs.N6 as N6
 
 -- the values of a model are one table

@@ -1,5 +1,5 @@
 -- What evaluating an expression by numbers tells of its value.
-use Rattle.std.proofs.Common.{◌≡◌, refl, ap, sym, ◌∙◌, ℕ, Bool, List, [], Option, Some, None, is_some, not}
+use Rattle.std.proofs.Common.{◌≡◌, refl, ap, ◌∙◌, ℕ, Bool, List, [], Option, Some, None, is_some, not}
 use Rattle.mo_order.specs.Values.{Slots}
 use Rattle.mo_order.proofs.Queueing.{larger_self}
 use Rattle.mo_parser.specs.declared.tree.ClassDef.{ClassDef}
@@ -9,7 +9,6 @@ use Rattle.class_scopes.specs.Spelled.{Ident}
 use Rattle.class_scopes.specs.Tables.{Numbered}
 use Rattle.flat_instances.specs.Instances.{Placed}
 use Rattle.parameter_values.specs.Values.{Values, of_kind, answer, value_by}
-use Rattle.parameter_values.specs.private.Slots.{seen}
 use Rattle.parameter_values.specs.private.Outcomes.{outcome}
 use Rattle.parameter_values.specs.private.Givens.{value_with}
 use Rattle.parameter_values.proofs.OutcomeMeaning.{outcome_matches}

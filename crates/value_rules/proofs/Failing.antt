@@ -1,10 +1,10 @@
 -- N7, from the first variable of which something fails.
-use Rattle.std.proofs.Common.{◌≡◌, refl, ap, sym, ◌∙◌, subst, ℕ, zero, suc, ◌≤◌, Bool, true, false, ◌||◌, if◌then◌else◌, List, [], ◌∷◌, length, map, Option, Some, None, slice_get, Contains, arith}
+use Rattle.std.proofs.Common.{◌≡◌, refl, ap, sym, ◌∙◌, subst, ℕ, Bool, true, false, ◌||◌, if◌then◌else◌, List, [], ◌∷◌, length, map, Option, Some, None, slice_get, Contains, arith}
 use Rattle.std.specs.List.{position_from}
 use Rattle.mo_order.specs.Values.{Slots}
 use Rattle.mo_parser.specs.declared.tree.ClassDef.{ClassDef}
 use Rattle.flat_model.specs.declared.model.NameKind.{NameKind}
-use Rattle.class_scopes.specs.Faults.{IsFirstOf, IsKept, IsFirstPlace}
+use Rattle.class_scopes.specs.Faults.{IsFirstOf, IsFirstPlace}
 use Rattle.class_scopes.specs.Tables.{Numbered}
 use Rattle.class_scopes.specs.Types.{kind_of}
 use Rattle.flat_instances.specs.Instances.{Placed, Variable}
@@ -13,11 +13,12 @@ use Rattle.parameter_values.specs.private.Slots.{seen, IsTableOfParameters}
 use Rattle.value_rules.specs.declared.missing.Needs.{Needs as KeptNeeds}
 use Rattle.value_rules.specs.N6 as N6
 use Rattle.value_rules.specs.N7 as N7
-use Rattle.value_rules.specs.private.Missing.{missing_reads, missing_for, reads_none, fails, either_fails, failing, needed, needs_of, own_expr}
+use Rattle.value_rules.specs.private.Missing.{missing_reads, missing_for, reads_none, fails, either_fails, failing}
+use Rattle.value_rules.specs.Needs.{needed, needs_of, own_expr}
 use Rattle.value_rules.proofs.Lacking.{IsLacking, lacks_reads, reads_lacks}
 use Rattle.value_rules.proofs.Reading.{read_misses, misses_read}
 use Rattle.value_rules.proofs.Cycles.{same_values}
-use Rattle.value_rules.proofs.Positions.{IsFirst, position_map, found_at, none_at}
+use Rattle.value_rules.proofs.Positions.{position_map, found_at, none_at}
 
 either : (a b : Bool) → a || b ≡ true → (b ≡ true → a ≡ true) → a ≡ true
 either true b is from = refl

@@ -5,6 +5,7 @@ pub mod Dots
 pub mod Evaluated
 pub mod Failing
 pub mod Lacking
+pub mod OneFault
 pub mod Positions
 pub mod Reading
 pub mod Verdicts

@@ -1,10 +1,10 @@
 -- What is found of the graph and of the variables is the first broken rule.
-use Rattle.std.proofs.Common.{◌≡◌, refl, ap, sym, ◌∙◌, ℕ, List, length, map, Option, Some, None}
+use Rattle.std.proofs.Common.{◌≡◌, ap, sym, ◌∙◌, ℕ, List, length, map, Option, Some, None}
 use Rattle.std.specs.List.{position_from}
 use Rattle.mo_order.specs.Graphs.{Graph, IsOrder, IsLeastOnCycle}
 use Rattle.mo_order.specs.Values.{Slots}
 use Rattle.mo_parser.specs.declared.tree.ClassDef.{ClassDef}
-use Rattle.class_scopes.specs.Faults.{IsKept, IsFirstPlace}
+use Rattle.class_scopes.specs.Faults.{IsKept}
 use Rattle.class_scopes.specs.Tables.{Numbered}
 use Rattle.flat_instances.specs.Instances.{Variable}
 use Rattle.parameter_values.specs.Values.{AreValues}
@@ -14,8 +14,9 @@ use Rattle.value_rules.specs.declared.missing.Needs.{Needs as KeptNeeds}
 use Rattle.value_rules.specs.declared.faults.ValueFault.TheVariants.{Waiting, Failing}
 use Rattle.value_rules.specs.N6 as N6
 use Rattle.value_rules.specs.N7 as N7
-use Rattle.value_rules.specs.private.Faults.{IsFirstFault}
-use Rattle.value_rules.specs.private.Missing.{waiting, failing, needed, needs_of}
+use Rattle.value_rules.specs.Faults.{IsFirstFault}
+use Rattle.value_rules.specs.private.Missing.{waiting, failing}
+use Rattle.value_rules.specs.Needs.{needed}
 use Rattle.value_rules.proofs.Complete.{has_all}
 use Rattle.value_rules.proofs.Cycles.{first_waiting, none_waiting}
 use Rattle.value_rules.proofs.Failing.{first_failing}

@@ -1,5 +1,5 @@
 -- The graph of parameters that wait for each other.
-use Rattle.std.proofs.Common.{◌≡◌, refl, ap, sym, ◌∙◌, subst, ℕ, zero, suc, ◌<◌, Bool, true, false, List, [], ◌∷◌, length, map, Option, Some, None, option_map, is_some, not, slice_get, Contains, arith}
+use Rattle.std.proofs.Common.{◌≡◌, refl, ap, sym, ◌∙◌, subst, ℕ, ◌<◌, Bool, true, false, List, length, map, Option, Some, None, option_map, is_some, not, slice_get, Contains, arith}
 use Rattle.std.proofs.lemmas.Option.{slice_get_within, slice_get-get_or, get_or_from_slice_get, slice_get-map}
 use Rattle.mo_order.specs.Graphs.{Graph, IsEdge, IsWithin}
 use Rattle.mo_order.specs.Values.{Slots}

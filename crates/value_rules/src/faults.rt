@@ -1,8 +1,9 @@
 //! The first variable without a value that it needs.
 ghost use Rattle.std.specs.Prelude.{IfOk, length, map};
 ghost use Rattle.parameter_values.specs.private.Givens as givens;
+ghost use Rattle.value_rules.specs.Needs as wanted;
 ghost use Rattle.value_rules.specs.private.Missing as meaning;
-ghost use Rattle.value_rules.specs.private.Faults as faults;
+ghost use Rattle.value_rules.specs.Faults as faults;
 
 use crate::missing::{Needs, first_failing, waiting_graph};
 use class_scopes::Table;
@@ -25,7 +26,7 @@ fn first_waiting(
     values: &Values<'_>,
     parameters: &[Parameter<'_>],
 ) -> Result<Option<usize>, AllocError>
-    ensures { IfOk result (λ first. faults.IsFirstWaiting (map (meaning.waiting values.now.text.now values.now.numbers.now values.now.slots.now (length parameters.now)) (map givens.valued parameters.now)) first) }
+    ensures { IfOk result (λ first. meaning.IsFirstWaiting (map (meaning.waiting values.now.text.now values.now.numbers.now values.now.slots.now (length parameters.now)) (map givens.valued parameters.now)) first) }
 {
     let graph = waiting_graph(values, parameters)?;
     match ordered(values.alloc, graph.as_slice()) {
@@ -45,7 +46,7 @@ pub fn value_fault(
     found: &[Option<Value>],
     variables: &[Needs<'_>],
 ) -> Result<Option<ValueFault>, AllocError>
-    ensures { IfOk result (λ fault. faults.IsFirstFault text.now numbers.now (map givens.valued parameters.now) found.now (map meaning.needed variables.now) fault) }
+    ensures { IfOk result (λ fault. faults.IsFirstFault text.now numbers.now (map givens.valued parameters.now) found.now (map wanted.needed variables.now) fault) }
 {
     let values = Values {
         alloc,

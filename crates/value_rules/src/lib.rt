@@ -2,7 +2,11 @@
 #![tactic(auto)]
 
 mod faults;
+mod law;
 mod missing;
+#[cfg(test)]
+mod tests;
 
 pub use faults::{ValueFault, value_fault};
+pub use law::value_law;
 pub use missing::Needs;

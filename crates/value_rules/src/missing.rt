@@ -4,6 +4,7 @@ ghost use Rattle.std.specs.List.{position_from};
 ghost use Rattle.mo_order.specs.Graphs.{graph_of};
 ghost use Rattle.class_scopes.specs.Spelled as spellings;
 ghost use Rattle.parameter_values.specs.private.Givens as givens;
+ghost use Rattle.value_rules.specs.Needs as wanted;
 ghost use Rattle.value_rules.specs.private.Missing as meaning;
 
 use class_scopes::{is_time, spelled};
@@ -165,7 +166,7 @@ fn fails(values: &Values<'_>, count: usize, need: &Parameter<'_>) -> Result<bool
 }
 
 fn either_fails(values: &Values<'_>, count: usize, needs: &Needs<'_>) -> Result<bool, AllocError>
-    ensures { IfOk result (λ fails. fails ≡ meaning.either_fails values.now.text.now values.now.numbers.now values.now.slots.now count (meaning.needed needs.now)) }
+    ensures { IfOk result (λ fails. fails ≡ meaning.either_fails values.now.text.now values.now.numbers.now values.now.slots.now count (wanted.needed needs.now)) }
 {
     let own = fails(values, count, &needs.own)?;
     let start = fails(values, count, &needs.start)?;

@@ -1,22 +1,21 @@
 -- What values still miss, by the numbers of parameters.
 use Rattle.std.specs.Prelude.{ℕ, nat_lt, List, [], ◌∷◌, ◌++◌, flat_map, Option, Some, None, Bool, true, false, ◌&&◌, ◌||◌, not, is_some, if◌then◌else◌}
-use Rattle.sync_values.specs.declared.value.Value.{Value}
+use Rattle.mo_order.specs.Graphs.{Graph, IsOrder, IsLeastOnCycle}
 use Rattle.mo_order.specs.Values.{Slots}
-use Rattle.mo_parser.specs.declared.tree.ClassDef.{ClassDef}
 use Rattle.mo_parser.specs.declared.tree.Path.{Path}
 use Rattle.mo_parser.specs.declared.tree.TreeExpr.{TreeExpr}
 use Rattle.flat_model.specs.declared.model.NameKind.{NameKind}
 use Rattle.class_scopes.specs.Spelled.{Ident, idents, dotted, is_time}
 use Rattle.class_scopes.specs.Tables.{Numbered, number_of}
-use Rattle.class_scopes.specs.Types.{kind_of}
 use Rattle.scope_names.specs.Written.{names_in}
-use Rattle.flat_instances.specs.Instances.{Placed, Variable}
+use Rattle.flat_instances.specs.Instances.{Placed}
 use Rattle.parameter_values.specs.declared.evaluate.Outcome.{Outcome}
-use Rattle.parameter_values.specs.Values.{of_kind, is_parameter, value_expr}
+use Rattle.parameter_values.specs.Values.{of_kind}
 use Rattle.parameter_values.specs.private.Slots.{value_at}
 use Rattle.parameter_values.specs.private.Outcomes.{answer_of}
-use Rattle.parameter_values.specs.private.Givens.{Valued, valued, value_with}
+use Rattle.parameter_values.specs.private.Givens.{Valued, value_with}
 use Rattle.value_rules.specs.declared.missing.Needs.{Needs as KeptNeeds}
+use Rattle.value_rules.specs.Needs.{Needs, needed}
 
 abbrev pub is_no_value : Option NameKind → Outcome → Bool
 is_no_value kind outcome = not (is_some (of_kind kind (answer_of outcome)))
@@ -24,19 +23,10 @@ is_no_value kind outcome = not (is_some (of_kind kind (answer_of outcome)))
 abbrev pub is_missing : Slots → ℕ → ℕ → Bool
 is_missing slots count number = nat_lt number count && not (is_some (value_at slots number))
 
--- the types and expressions of a variable's own value and of its start
-abbrev pub Needs : Type 0
-Needs = Valued × Valued
-
-abbrev pub needed : KeptNeeds → Needs
-needed needs = (valued needs.own, valued needs.start)
-
-module _ (text : List ℕ) (classes : List ClassDef) where
-  abbrev pub own_expr : Variable → Option Placed
-  own_expr v = if is_parameter v then value_expr text classes v else None
-
-  abbrev pub needs_of : Variable → Needs
-  needs_of v = ((kind_of text classes v.type, own_expr v), (kind_of text classes v.type, v.start))
+-- the least number on a cycle, or there is an order
+abbrev pub IsFirstWaiting : Graph → Option ℕ → Type 0
+IsFirstWaiting graph (Some x) = IsLeastOnCycle graph x
+IsFirstWaiting graph None = (order : List ℕ) × IsOrder graph order
 
 module _ (text : List ℕ) (table : Numbered) (slots : Slots) (count : ℕ) where
   abbrev pub missing_number : Option ℕ → List ℕ

@@ -2,7 +2,6 @@ use Rattle.std.proofs.Common.{rules, ◌≡◌, sym, ap, ◌∙◌, subst, Err, 
 use Rattle.mo_order.specs.Graphs.{graph_of, IsWithin, IsOrder, IsLeastOnCycle, Orders, told}
 use Rattle.mo_order.specs.declared.search.OrderEnd.TheVariants.{Cycle}
 use Rattle.parameter_values.specs.private.Givens.{valued}
-use Rattle.value_rules.specs.private.Missing.{waiting}
 use Rattle.value_rules.proofs.Reading.{long_map}
 use Rattle.value_rules.proofs.Waiting.{within}
 use Rattle.value_rules.proofs.faults.first_waiting.Goals as goal

@@ -1,4 +1,4 @@
-use Rattle.std.proofs.Common.{rules, ◌≡◌, refl, ap, sym, ◌∙◌, true, false, Some, option_map}
+use Rattle.std.proofs.Common.{rules, ◌≡◌, ap, sym, ◌∙◌, true, false, Some, option_map}
 use Rattle.parameter_values.specs.private.Outcomes.{outcome}
 use Rattle.value_rules.specs.private.Missing.{is_no_value, missing_reads}
 use Rattle.value_rules.proofs.Evaluated.{missing_is}

@@ -1,6 +1,5 @@
 -- The first broken rule of the values of a model.
 use Rattle.std.specs.Prelude.{◌≡◌, ℕ, List, map, Option, Some, None}
-use Rattle.mo_order.specs.Graphs.{Graph, IsOrder, IsLeastOnCycle}
 use Rattle.mo_order.specs.Values.{Slots}
 use Rattle.mo_parser.specs.declared.tree.ClassDef.{ClassDef}
 use Rattle.class_scopes.specs.Faults.{IsFirstOf, IsKept}
@@ -13,12 +12,7 @@ use Rattle.value_rules.specs.declared.faults.ValueFault.{ValueFault}
 use Rattle.value_rules.specs.declared.faults.ValueFault.TheVariants.{Waiting, Failing}
 use Rattle.value_rules.specs.N6 as N6
 use Rattle.value_rules.specs.N7 as N7
-use Rattle.value_rules.specs.private.Missing.{Needs, needs_of}
-
--- the least number on a cycle, or there is an order
-abbrev pub IsFirstWaiting : Graph → Option ℕ → Type 0
-IsFirstWaiting graph (Some x) = IsLeastOnCycle graph x
-IsFirstWaiting graph None = (order : List ℕ) × IsOrder graph order
+use Rattle.value_rules.specs.Needs.{Needs, needs_of}
 
 module _ (text : List ℕ) (table : Numbered) (found : Slots) where
   -- N6 before N7, each at its first variable; else each value that is needed is there
@@ -33,3 +27,8 @@ abbrev pub IsFirstFault : List ℕ → Numbered → List Valued → Slots → Li
 IsFirstFault text table items found needs fault = (classes : List ClassDef) (all : List Variable) → IsTableOfParameters all table
     → items ≡ map (valued_of text classes) (parameters all) → needs ≡ map (needs_of text classes) all → AreValues text classes all (seen table found)
     → Answers text table found classes all fault
+
+-- only one answer is right for a model
+abbrev pub OneFaultLaw : Type 0
+OneFaultLaw = (text : List ℕ) (table : Numbered) (found : Slots) (classes : List ClassDef) (all : List Variable) (a b : Option ValueFault)
+    → Answers text table found classes all a → Answers text table found classes all b → a ≡ b
