@@ -1,0 +1,3 @@
+pub mod N5
+pub mod Paths
+pub mod Targets

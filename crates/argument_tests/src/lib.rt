@@ -1,0 +1,5 @@
+//! Tests of the rules of arguments.
+#![tactic(auto)]
+
+#[cfg(test)]
+mod rows;
