@@ -25,7 +25,8 @@ impl Model for Table {
 }
 
 impl Table {
-    fn new(alloc: Global) -> Table
+    /// A table without names.
+    pub fn new(alloc: Global) -> Table
         ensures { result ≡ [] }
     {
         Table {
@@ -40,8 +41,8 @@ impl Table {
         self.numbers.get(name).copied()
     }
 
-    /// Adds a name at the end if it is new, and tells whether it is.
-    fn declare(&mut self, alloc: Global, name: &[u8], number: usize) -> Result<bool, AllocError>
+    /// Adds a name at the end if it is new, and tells whether it is. Memory that is refused changes nothing.
+    pub fn declare(&mut self, alloc: Global, name: &[u8], number: usize) -> Result<bool, AllocError>
         ensures declared { IfOk result (λ added. Declares self.old name.now number added self.new) }
         ensures err { OnErr result (self.new ≡ self.old) }
     {
