@@ -4,8 +4,6 @@
 mod faults;
 mod law;
 mod missing;
-#[cfg(test)]
-mod tests;
 
 pub use faults::{ValueFault, value_fault};
 pub use law::value_law;

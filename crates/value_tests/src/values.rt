@@ -1,5 +1,4 @@
 //! Tests of the rules of values, on models whose components are variables of the chosen class.
-use crate::{Needs, ValueFault, value_fault};
 use class_scopes::{File, names, table_of};
 use flat_model::NameKind;
 use mo_lexer::lex;
@@ -8,6 +7,7 @@ use parameter_values::{Parameter, parameter_values};
 use std::alloc::Global;
 use std::process::Abort;
 use sync_values::Text;
+use value_rules::{Needs, ValueFault, value_fault};
 
 const LIMIT: usize = 1 << 20;
 

@@ -1,0 +1,5 @@
+//! Tests of the rules of values.
+#![tactic(auto)]
+
+#[cfg(test)]
+mod values;
