@@ -4,9 +4,11 @@ use Rattle.std.proofs.lemmas.List.{append-nil}
 use Rattle.mo_parser.specs.declared.tree.Arg.{Arg}
 use Rattle.mo_parser.specs.declared.tree.Arg.TheViews.{out-Arg}
 use Rattle.mo_parser.specs.declared.tree.Arg.TheFolds.{fold_out-Arg}
+use Rattle.mo_parser.specs.declared.tree.Path.{Path}
+use Rattle.mo_parser.specs.declared.tree.Span.{Span}
 use Rattle.mo_parser.specs.declared.tree.TreeExpr.{TreeExpr}
 use Rattle.class_scopes.specs.Places.{Entry}
-use Rattle.class_scopes.specs.Spelled.{Ident, idents, place_of}
+use Rattle.class_scopes.specs.Spelled.{Ident, idents, place_of, spelled}
 use Rattle.argument_rules.specs.declared.paths.Leaf.{Leaf}
 use Rattle.argument_rules.specs.Paths.{along, Leaves, counts, own_leaf, nested_leaves, entry, Adds, leaves_level, leaves_of, leaves_in}
 
@@ -25,6 +27,10 @@ counts_some (x ∷ args) binding some = refl
 counts_map : {A B : Type 0} (f : A → B) (args : List A) (binding : Option TreeExpr) → counts (map f args) binding ≡ counts args binding
 counts_map f [] binding = refl
 counts_map f (x ∷ args) binding = refl
+
+-- the path of an argument, by the parts of its name
+pub path_is : (text : List ℕ) (prefix path : Ident) (parts : List Span) (name : Path) → path ≡ along prefix (map (spelled text) parts) → parts ≡ name.parts → path ≡ along prefix (idents text name)
+path_is text prefix path parts name is these = is ∙ ap (λ ps. along prefix (map (spelled text) ps)) these
 
 module _ (text : List ℕ) where
   through : (prefix : Ident) (args : List Arg) → nested_leaves (map (leaves_of text) args) prefix ≡ leaves_in text prefix args
