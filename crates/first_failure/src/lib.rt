@@ -7,5 +7,5 @@
 mod law;
 mod least;
 
-pub use law::least_law;
+pub use law::{least_law, ready_law};
 pub use least::EquationFailing;
