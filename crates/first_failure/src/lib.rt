@@ -1,0 +1,11 @@
+//! The first equation of a base partition to fail at a moment, by its number, whatever the order in which its uses are taken.
+//!
+//! Where the quick run of a partition has failed, its equations are run once more one by one, and those that read a
+//! name without a value are left out.
+#![tactic(auto)]
+
+mod law;
+mod least;
+
+pub use law::{least_law, ready_law};
+pub use least::EquationFailing;
