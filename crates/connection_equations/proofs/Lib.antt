@@ -1,0 +1,3 @@
+pub mod Belows
+pub mod Dots
+pub mod Shapes
