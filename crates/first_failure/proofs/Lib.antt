@@ -1,2 +1,4 @@
+pub mod Alone
+pub mod Looping
 pub mod Readying
 pub mod Turning

@@ -1,2 +1,4 @@
+pub mod Careful
+pub mod Lone
 pub mod Ready
 pub mod Turns

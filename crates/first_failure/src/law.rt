@@ -1,3 +1,4 @@
+ghost use Rattle.first_failure.specs.Lone.{LoneLaw};
 ghost use Rattle.first_failure.specs.Ready.{ReadyLaw};
 ghost use Rattle.first_failure.specs.Turns.{LeastLaw};
 
@@ -9,4 +10,9 @@ pub fn least_law()
 /// A use counts where its class ticks and all that it reads can be read, and is left out elsewhere.
 pub fn ready_law()
     ensures { ReadyLaw }
+{}
+
+/// A run of one line that is ready does what its use does over the row, whatever failed before.
+pub fn lone_law()
+    ensures { LoneLaw }
 {}

@@ -4,8 +4,11 @@
 //! name without a value are left out.
 #![tactic(auto)]
 
+mod bits;
+mod careful;
 mod law;
 mod least;
 
-pub use law::{least_law, ready_law};
+pub use careful::{LoneLine, first_failure};
+pub use law::{least_law, lone_law, ready_law};
 pub use least::EquationFailing;
