@@ -3,6 +3,8 @@
 #![tactic(auto)]
 
 mod law;
+#[cfg(test)]
+mod tests;
 mod walk;
 
 pub use law::filled_instances_law;
