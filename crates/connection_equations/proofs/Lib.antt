@@ -1,3 +1,4 @@
 pub mod Belows
 pub mod Dots
 pub mod Shapes
+pub mod Tabled
