@@ -3,8 +3,6 @@
 #![tactic(auto)]
 
 mod law;
-#[cfg(test)]
-mod tests;
 mod walk;
 
 pub use law::filled_instances_law;

@@ -1,10 +1,9 @@
 //! Instances that have something in them, and none of the others.
 ghost use Rattle.class_scopes.specs.Reached.{AreReached};
 
-use crate::law::filled_instances_law;
-use crate::walk::filled_instances;
 use class_order::{class_order, filled};
 use class_scopes::{Named, RuleEnd, names};
+use filled_instances::{filled_instances, filled_instances_law};
 use flat_instances::Item;
 use mo_lexer::lex;
 use mo_parser::{Tree, parse};
