@@ -6,7 +6,6 @@ use Rattle.sync_values.specs.Arithmetic.{fitted}
 use Rattle.sync_values.specs.Relation.{rank}
 use Rattle.sync_values.specs.declared.value.Value.{Value}
 use Rattle.sync_values.specs.declared.value.Value.TheVariants as value
-use Rattle.flat_model.specs.declared.expression.Expr.{Expr}
 use Rattle.flat_model.specs.Asks.{Asking, OfNow, OfLast, OfPrevious, OfFirst, OfInterval}
 use Rattle.flat_model.specs.Assignment.{Assignment, IsOfKind, tick_before, value_at_tick, previous_value}
 use Rattle.flat_model.specs.Faults.{EquationFails}
@@ -16,19 +15,19 @@ use Rattle.flat_model.specs.Operators.{Answer, Is, Fails, Absent}
 use Rattle.flat_model.specs.Setting.{Setting, class_of_name, start_of, class_ticks, name_ticks, views_at}
 use Rattle.flat_model.specs.Uses.{Use}
 use Rattle.flat_model.specs.Views.{Views}
-use Rattle.moment_theory.specs.Free.{IsReachedBy, AreFree, IsOrdered}
+use Rattle.moment_theory.specs.Free.{IsReachedBy, IsOrdered}
 use Rattle.moment_theory.specs.Taken.{put, Gives}
 use Rattle.moment_theory.proofs.FromRunnable.{facts_of}
 use Rattle.moment_theory.proofs.Rows.{row_now, row_before, unclocked_at_first}
 use Rattle.step_code.specs.Code.{Cells}
-use Rattle.step_code.specs.Lines.{Line, given, All, Failed, Missing, lines_end, ended_by, Holds, IsNoCell, IsKeptBut}
+use Rattle.step_code.specs.Lines.{Line, given, All, lines_end, ended_by, Holds, IsNoCell, IsKeptBut}
 use Rattle.step_lines.specs.declared.running.Failing.{Failing}
 use Rattle.step_lines.specs.declared.stretch.Stretch.{Stretch}
 use Rattle.step_lines.specs.Stretches.{EndsAs, RunsLines}
 use Rattle.side_theory.specs.Counted.{Begins}
-use Rattle.side_theory.specs.Kept.{HasWord, IsSet, IsClockSet}
+use Rattle.side_theory.specs.Kept.{HasWord, IsSet}
 use Rattle.side_theory.specs.Runs.{HoldsRow}
-use Rattle.side_theory.specs.Sides.{IsSideUse, IsAnswerOfKind, Counts, DoesAs}
+use Rattle.side_theory.specs.Sides.{IsSideUse, Counts, DoesAs}
 use Rattle.side_theory.specs.Stretches.{IsSameAt}
 use Rattle.side_theory.specs.Typed.{IsTypedRow}
 use Rattle.side_theory.proofs.Counting.{free_behind}
