@@ -1,5 +1,5 @@
 -- Starts of variables.
-use Rattle.std.proofs.Common.{◌≡◌, refl, ap, ap₂, sym, ◌∙◌, ℕ, List, [], ◌∷◌, map, codes, Option, Some, None, option_map, option_and_then, arith}
+use Rattle.std.proofs.Common.{◌≡◌, ap, ap₂, sym, ◌∙◌, ℕ, List, [], ◌∷◌, map, codes, Option, Some, None, option_map, option_and_then, arith}
 use Rattle.std.specs.Option.{option_or}
 use Rattle.mo_parser.specs.declared.tree.ClassDef.{ClassDef}
 use Rattle.mo_parser.specs.declared.tree.Short.{Short}

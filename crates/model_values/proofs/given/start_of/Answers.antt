@@ -1,4 +1,4 @@
-use Rattle.std.proofs.Common.{◌≡◌, sym, ap, ◌∙◌, map, codes, ◌∷◌, [], ◌++◌}
+use Rattle.std.proofs.Common.{◌≡◌, ap, ◌∙◌, map, codes, ◌∷◌, [], ◌++◌}
 use Rattle.model_values.proofs.Starts.{start_given, start_short}
 use Rattle.model_values.proofs.given.start_of.Goals as goal
 
