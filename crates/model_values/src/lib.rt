@@ -4,6 +4,8 @@
 mod given;
 mod model;
 mod table;
+mod values;
 
 pub use model::{needs, parameters};
 pub use table::parameter_table;
+pub use values::{ModelValues, model_values};
