@@ -33,6 +33,21 @@ pub(crate) fn reduced(num: u128, den: u128) -> Option<Ratio>
     ensures value { IfSome result (λ r. IsFraction r num den) }
     ensures none { IsNone result ↔ DoesNotFit num den }
 {
+    let Ok(short_num) = u64::try_from(num) else {
+        return wide_reduced(num, den);
+    };
+    let Ok(short_den) = u64::try_from(den) else {
+        return wide_reduced(num, den);
+    };
+    Some(make(short_num, short_den))
+}
+
+/// The same by arithmetic on 128 bits, which takes longer.
+fn wide_reduced(num: u128, den: u128) -> Option<Ratio>
+    requires { 0 < den }
+    ensures value { IfSome result (λ r. IsFraction r num den) }
+    ensures none { IsNone result ↔ DoesNotFit num den }
+{
     let divisor = wide_gcd(num, den);
     let num = u64::try_from(num / divisor).ok()?;
     let den = u64::try_from(den / divisor).ok()?;
