@@ -1,5 +1,6 @@
 pub mod Counting
 pub mod Divisors
+pub mod Factors
 pub mod Floors
 pub mod Fractions
 pub mod Meetings

@@ -1,5 +1,5 @@
 -- Time texts read from the front: the digits first, then what follows them.
-use Rattle.std.proofs.Common.{◌≡◌, ◌≢◌, refl, sym, ◌∙◌, ap, subst, ℕ, ◌+◌, ◌*◌, ◌^◌, ◌<◌, ◌≤◌, ◌++◌, List, [], ◌∷◌, length, arith, append-nil, pow-suc, get_or, zero, suc, take, Option, Some, None, MatchOption, Err, ok_or, IsNone, IfSome, IfOk, ◌↔◌, true, false, lit≤, lit<}
+use Rattle.std.proofs.Common.{◌≡◌, ◌≢◌, refl, sym, ◌∙◌, ap, subst, ℕ, ◌+◌, ◌*◌, ◌^◌, ◌<◌, ◌≤◌, ◌++◌, List, [], ◌∷◌, length, arith, append-nil, pow-suc, get_or, zero, suc, take, length-append, Option, Some, None, MatchOption, Err, ok_or, IsNone, IfSome, IfOk, ◌↔◌, true, false, lit≤, lit<}
 use Rattle.std.specs.Char.{digit_value}
 use Rattle.std.specs.Str.Parse.{AllDigits, digits_value}
 use Rattle.std.proofs.lemmas.List.{length-take-le}
@@ -10,6 +10,7 @@ use Rattle.rational_time.specs.declared.ratio.Ratio.{Ratio}
 use Rattle.rational_time.specs.declared.time_text.RatioFault.TheVariants.{Malformed, TooFine}
 use Rattle.rational_time.specs.Fraction.{IsFraction, Exceeds}
 use Rattle.rational_time.specs.TimeText.WritesTime.{whole, quotient, decimal}
+use Rattle.rational_time.specs.private.Front.{Begins}
 
 -- the digits in front of a text and the rest
 pub record IsSplit (text first rest : List ℕ) : Type 0 where
@@ -118,8 +119,8 @@ pub one_digit_more : (text : List ℕ) (at value digit : ℕ) → at < length te
 one_digit_more text at value digit h all v below d =
     (digits_more 10 text at h all below, omega (arith, digits_value_more 10 text at h, v, d))
 
--- the number of the first digits of at most 18 is below 10^18
-pub value_below : (text : List ℕ) (at : ℕ) → at ≤ length text → length text ≤ 18 → AllDigits 10 (take at text) → digits_value 10 (take at text) < 10 ^ 18
+-- the number of at most 18 first digits is below 10^18
+pub value_below : (text : List ℕ) (at : ℕ) → at ≤ length text → at ≤ 18 → AllDigits 10 (take at text) → digits_value 10 (take at text) < 10 ^ 18
 value_below text at inside few all =
     digits_value_short (record { to = λ ds h. h; from = λ ds h. h; same = λ ds h. refl }) (take at text) 18 all (omega (arith, length-take-le at text inside))
 
@@ -128,6 +129,55 @@ pub no_digit : (text : List ℕ) (at : ℕ) → at < length text → 10 ≤ digi
 no_digit [] at h big all = absurd (omega arith)
 no_digit (x ∷ xs) zero h big all = omega (arith, all.0)
 no_digit (x ∷ xs) (suc at) h big all = no_digit xs at (omega arith) big all.1
+
+-- the split of a text that begins with a numeral
+pub split_at_front : (text : List ℕ) (value : ℕ) (rest : List ℕ) (b : Begins 18 text value rest) → IsSplit text b.first rest
+split_at_front text value rest b = record { joined = b.joined; digits = b.numeral.digits; other = b.other }
+
+-- a text that writes a fraction begins with a numeral
+pub front_of : (text : List ℕ) (n d : ℕ) → WritesTime text n d → (value : ℕ) × (rest : List ℕ) × Begins 18 text value rest
+front_of text n d (whole numeral num den) = (digits_value 10 text, [], record { first = text; joined = sym (append-nil text); numeral = numeral; other = tt; is = refl })
+front_of text n d (quotient top under e p q num den pos) = (digits_value 10 top, 47 ∷ under, record { first = top; joined = e; numeral = p; other = lit≤ tt; is = refl })
+front_of text n d (decimal top part e p q num den) = (digits_value 10 top, 46 ∷ part, record { first = top; joined = e; numeral = p; other = lit≤ tt; is = refl })
+
+-- a text without a digit in front begins with no numeral
+pub no_front : (most : ℕ) (text : List ℕ) → 10 ≤ digit_value (get_or text 0 0) → (value : ℕ) (rest : List ℕ) → Begins most text value rest → ⊥
+no_front most text big value rest b = first_is text b.first rest b.joined b.numeral big
+  where
+    first_is : (text first rest : List ℕ) → text ≡ first ++ rest → IsNumeral most first → 10 ≤ digit_value (get_or text 0 0) → ⊥
+    first_is text [] rest e p big = absurd (omega (arith, p.some))
+    first_is text (x ∷ first) rest e p big =
+        let head : get_or text 0 0 ≡ x = ap (λ l. get_or l 0 0) e in
+        omega (arith, p.digits.0, subst (λ z. 10 ≤ digit_value z) head big)
+
+pub no_front_of_none : (most : ℕ) (text : List ℕ) → length text ≡ 0 → (value : ℕ) (rest : List ℕ) → Begins most text value rest → ⊥
+no_front_of_none most text none value rest b =
+    omega (arith, b.numeral.some, length-append b.first rest, ap length b.joined, none)
+
+-- the digits in front are at least as many as any digits from the start
+digits_in_front : (k : ℕ) (first rest : List ℕ) → IsNoDigitFirst rest → k ≤ length (first ++ rest) → AllDigits 10 (take k (first ++ rest)) → k ≤ length first
+digits_in_front zero first rest other inside all = omega arith
+digits_in_front (suc k) [] [] other inside all = absurd (omega arith)
+digits_in_front (suc k) [] (y ∷ rest) other inside all = absurd (omega (arith, other, all.0))
+digits_in_front (suc k) (x ∷ first) rest other inside all = omega (arith, digits_in_front k first rest other (omega arith) all.1)
+
+-- a text with too many digits in front begins with no numeral
+pub long_front : (most : ℕ) (text : List ℕ) → most < length text → AllDigits 10 (take (most + 1) text) → (value : ℕ) (rest : List ℕ) → Begins most text value rest → ⊥
+long_front most text inside all value rest b =
+    let there : most + 1 ≤ length (b.first ++ rest) = subst (λ l. most + 1 ≤ length l) b.joined (omega arith) in
+    let digits : AllDigits 10 (take (most + 1) (b.first ++ rest)) = subst (λ l. AllDigits 10 (take (most + 1) l)) b.joined all in
+    omega (arith, digits_in_front (most + 1) b.first rest b.other there digits, b.numeral.few)
+
+-- a numeral of so many digits in front of a text, and what stands behind them
+pub begins_at : (most : ℕ) (text front rest : List ℕ) (at value : ℕ) → 0 < at → at ≤ most → length front ≡ at → text ≡ front ++ rest → AllDigits 10 front → IsNoDigitFirst rest →
+    value ≡ digits_value 10 front → Begins most text value rest
+begins_at most text front rest at value some few long joined all other v = record {
+  first = front;
+  joined = joined;
+  numeral = record { some = omega arith; few = omega arith; digits = all };
+  other = other;
+  is = v;
+}
 
 -- what is made of the text after a slash is the outcome of the whole text
 pub slash_outcome : (text first rest tail : List ℕ) (top : ℕ) (r : Option (ℕ × ℕ)) → IsSplit text first rest → rest ≡ 47 ∷ tail → IsNumeral 18 first → top ≡ digits_value 10 first →

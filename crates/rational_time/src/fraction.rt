@@ -4,6 +4,7 @@ ghost use Rattle.rational_time.specs.Fraction.{DoesNotFit, IsFraction, ArePartsB
 
 use crate::divisor::{gcd, wide_gcd};
 use crate::ratio::Ratio;
+use crate::tens::{is_apart, without_fives, without_twos};
 use std::cmp::Ordering;
 
 /// The fraction `num/den` in lowest terms.
@@ -11,7 +12,30 @@ pub fn make(num: u64, den: u64) -> Ratio
     requires { 0 < den }
     ensures { IsFraction result num den }
 {
+    if den == 1 {
+        return Ratio { num, den };
+    }
+    // Most instants are decimals or have a power of two below, and divisions take long.
+    let (half, under) = without_twos(num, den);
+    let (top, below) = without_fives(half, under);
+    if is_apart(top, below) {
+        return Ratio {
+            num: top,
+            den: below,
+        };
+    }
+    by_divisor(top, below)
+}
+
+/// The same by the greatest common divisor.
+fn by_divisor(num: u64, den: u64) -> Ratio
+    requires { 0 < den }
+    ensures { IsFraction result num den }
+{
     let divisor = gcd(num, den);
+    if divisor == 1 {
+        return Ratio { num, den };
+    }
     Ratio {
         num: num / divisor,
         den: den / divisor,

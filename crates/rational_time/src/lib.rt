@@ -7,6 +7,7 @@ mod fraction;
 pub mod kinds;
 mod ratio;
 mod shift;
+mod tens;
 mod ticks;
 mod time_text;
 

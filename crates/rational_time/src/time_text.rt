@@ -1,7 +1,8 @@
 ghost use Rattle.std.specs.Prelude.{◌≡◌, ℕ, ◌+◌, ◌*◌, ◌<◌, ◌≤◌, ◌^◌, ◌↔◌, ◌++◌, List, Err, length, IfOk, IfSome, IsNone, MatchOption};
 ghost use Rattle.std.specs.Str.Parse.{AllDigits, digits_value};
 ghost use Rattle.rational_time.specs.Fraction.{Exceeds, IsFraction};
-ghost use Rattle.rational_time.specs.TimeText.{IsNumeral, IsNoDigitFirst, WritesTime};
+ghost use Rattle.rational_time.specs.TimeText.{IsNumeral, WritesTime};
+ghost use Rattle.rational_time.specs.private.Front.{Begins};
 
 use crate::fraction::reduced;
 use crate::ratio::Ratio;
@@ -54,8 +55,7 @@ fn written(text: &[u8]) -> Option<(u128, u128)>
         ((n d : ℕ) → ¬ (WritesTime text.now n d))
         (λ r. WritesTime text.now r.0 r.1) }
 {
-    let (first, rest) = split_digits(text);
-    let whole = number(first, 18)?;
+    let (whole, rest) = front_number(text, 18)?;
     let Some((mark, last)) = rest.split_first() else {
         return Some((u128::from(whole), 1));
     };
@@ -66,18 +66,32 @@ fn written(text: &[u8]) -> Option<(u128, u128)>
     }
 }
 
-/// The digits in front of a text, and what follows them.
-fn split_digits(text: &[u8]) -> (&[u8], &[u8])
-    ensures text { text.now ≡ result.0.now ++ result.1.now }
-    ensures digits { AllDigits 10 result.0.now }
-    ensures rest { IsNoDigitFirst result.1.now }
+/// The number that the 1 to `most` digits in front of a text write, and what follows them.
+fn front_number(text: &[u8], most: usize) -> Option<(u64, &[u8])>
+    requires { most ≤ 18 }
+    ensures { MatchOption result
+        ((value : ℕ) (rest : List ℕ) → ¬ (Begins most text.now value rest))
+        (λ r. Begins most text.now r.0 r.1.now) }
 {
+    let mut value = 0;
     for (at, byte) in text.iter().enumerate() {
         if !byte.is_ascii_digit() {
-            return text.split_at(at);
+            if at == 0 {
+                return None;
+            }
+            let (_, rest) = text.split_at(at);
+            return Some((value, rest));
         }
+        if at == most {
+            return None;
+        }
+        value = value * 10 + u64::from(byte - b'0');
     }
-    text.split_at(text.len())
+    if text.is_empty() {
+        return None;
+    }
+    let (_, rest) = text.split_at(text.len());
+    Some((value, rest))
 }
 
 /// The number that 1 to `most` decimal digits write.
@@ -123,7 +137,26 @@ fn decimal(whole: u64, part: &[u8]) -> Option<(u128, u128)>
         × (r.1 ≡ 10 ^ length part.now)) }
 {
     let digits = number(part, 9)?;
-    let scale = 10u64.pow(part.len() as u32);
+    let scale = power_of_ten(part.len());
     let num = u128::from(whole) * u128::from(scale) + u128::from(digits);
     Some((num, u128::from(scale)))
+}
+
+/// The power of ten, which stands in a table up to 10^9.
+fn power_of_ten(exponent: usize) -> u64
+    requires { exponent ≤ 9 }
+    ensures { result ≡ 10 ^ exponent }
+{
+    match exponent {
+        0 => 1,
+        1 => 10,
+        2 => 100,
+        3 => 1_000,
+        4 => 10_000,
+        5 => 100_000,
+        6 => 1_000_000,
+        7 => 10_000_000,
+        8 => 100_000_000,
+        _ => 1_000_000_000,
+    }
 }
