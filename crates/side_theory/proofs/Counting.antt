@@ -1,24 +1,21 @@
 -- In a free order the uses of a stretch count.
-use Rattle.std.proofs.Common.{◌≡◌, ◌≢◌, refl, ap, sym, subst, ◌∙◌, ℕ, ◌<◌, ◌==◌, Bool, true, false, if◌then◌else◌, List, [], ◌∷◌, ◌++◌, append_assoc, Option, Some, None, IsSome, slice_get, Contains, ◌⊎◌, inl, inr, arith}
+use Rattle.std.proofs.Common.{◌≡◌, ◌≢◌, refl, ap, sym, subst, ◌∙◌, ℕ, ◌<◌, ◌==◌, Bool, true, false, if◌then◌else◌, List, [], ◌∷◌, ◌++◌, append_assoc, Option, Some, None, IsSome, slice_get, Contains, ◌⊎◌, inl, inr}
 use Rattle.std.proofs.lemmas.Bool.{false≢true, eqb-true, eq-eqb}
 use Rattle.std.proofs.lemmas.Option.{same_Some, none-some}
 use Rattle.sync_values.specs.declared.value.Value.{Value}
 use Rattle.flat_model.specs.declared.clock.Clock.{Clock}
 use Rattle.flat_model.specs.declared.clock.Clock.TheVariants.{Periodic, Event}
 use Rattle.flat_model.specs.declared.equation.Equation.{Equation}
-use Rattle.flat_model.specs.declared.equation.Equation.TheVariants.{Valued}
 use Rattle.flat_model.specs.declared.expression.Expr.{Expr}
-use Rattle.flat_model.specs.declared.expression.Expr.TheVariants.{Read}
 use Rattle.flat_model.specs.Assignment.{Assignment, IsOfKind}
 use Rattle.flat_model.specs.Clocks.{AreOnOneAxis}
 use Rattle.flat_model.specs.Given.{Row, with_row, HasLastValue, HasReadIn, CanUse}
 use Rattle.flat_model.specs.Meaning.{value_of}
-use Rattle.flat_model.specs.Occurrences.{one_if, converted_count}
+use Rattle.flat_model.specs.Occurrences.{converted_count}
 use Rattle.flat_model.specs.Operators.{Is}
 use Rattle.flat_model.specs.Runnable.{IsSideClocked}
 use Rattle.flat_model.specs.Setting.{Setting, class_of_name, class_of_equation, clock_of, partition_of, class_ticks, name_ticks, views_at}
 use Rattle.flat_model.specs.Uses.{Use, ClassesMeet, Reads}
-use Rattle.flat_model.proofs.Levels.{bare_count-Read, held_count-Read, converted_count-Read}
 use Rattle.moment_theory.specs.Free.{IsReachedBy, IsFree, AreFree, IsOrdered}
 use Rattle.moment_theory.specs.Taken.{put}
 use Rattle.moment_theory.proofs.Facts.{UseFacts, facts_of_use}

@@ -1,5 +1,5 @@
 -- A use of an equation `name = side` or `side = name` gives the value of its side, or fails as it does.
-use Rattle.std.proofs.Common.{◌≡◌, ◌≢◌, refl, ap, sym, subst, ◌∙◌, ℕ, ◌-◌, Bool, true, false, if◌then◌else◌, List, [], ◌∷◌, ◌++◌, Option, Some, Contains, eq-eqb, arith, inl, inr}
+use Rattle.std.proofs.Common.{◌≡◌, ◌≢◌, refl, ap, sym, subst, ◌∙◌, ℕ, ◌-◌, true, List, [], ◌∷◌, Option, Some, Contains, arith}
 use Rattle.std.proofs.lemmas.Option.{same_Some, none-some}
 use Rattle.sync_values.specs.declared.value.Value.{Value}
 use Rattle.sync_values.specs.declared.value.Fail.{Fail}
@@ -10,16 +10,15 @@ use Rattle.flat_model.specs.declared.expression.Expr.TheVariants.{Read}
 use Rattle.flat_model.specs.Assignment.{Assignment, IsOfKind}
 use Rattle.flat_model.specs.Faults.{EquationFails}
 use Rattle.flat_model.specs.Given.{Row, with_row, with_value, CanUse}
-use Rattle.flat_model.specs.Meaning.{seen_by, value_of}
-use Rattle.flat_model.specs.Occurrences.{one_if, bare_count}
+use Rattle.flat_model.specs.Meaning.{value_of}
+use Rattle.flat_model.specs.Occurrences.{bare_count}
 use Rattle.flat_model.specs.Operators.{Answer, Is, Fails, Absent, read}
-use Rattle.flat_model.specs.Parts.{beside_of, way_to, parts_beside, kind_of}
+use Rattle.flat_model.specs.Parts.{kind_of}
 use Rattle.flat_model.specs.Runnable.{IsRunnable}
 use Rattle.flat_model.specs.Setting.{Setting, class_of_name, class_of_equation, class_ticks, views_at}
 use Rattle.flat_model.specs.Uses.{Use, AreUses, IsSolvableFor, SiteReads}
 use Rattle.flat_model.specs.Views.{Views}
 use Rattle.flat_model.proofs.Agreement.{SameBefore}
-use Rattle.flat_model.proofs.Levels.{bare_count-Read, way_to-Read}
 use Rattle.flat_model.proofs.Links.{asked_bare}
 use Rattle.flat_model.proofs.Sites.{class_ticks_by_site}
 use Rattle.flat_model.proofs.Values.{value_of-Read}
@@ -28,7 +27,7 @@ use Rattle.moment_theory.specs.Taken.{Gives}
 use Rattle.moment_theory.proofs.Alike.{same_but}
 use Rattle.moment_theory.proofs.Facts.{facts_of_use, class_of_use}
 use Rattle.moment_theory.proofs.FromRunnable.{facts_of}
-use Rattle.moment_theory.proofs.PartsRest.{same_without, is_way}
+use Rattle.moment_theory.proofs.PartsRest.{same_without}
 use Rattle.moment_theory.proofs.Rows.{value_now, value_other, value_before, unclocked_at_first}
 use Rattle.moment_theory.proofs.Unknown.{site_same}
 use Rattle.side_theory.specs.Sides.{sided, IsSideUse, IsAnswerOfKind, Counts, DoesAs}

@@ -1,9 +1,7 @@
 -- What an equation between a name and a side has of each, whichever stands first.
-use Rattle.std.proofs.Common.{◌≡◌, ◌≢◌, refl, ap, sym, subst, ◌∙◌, ℕ, ◌<◌, ◌==◌, Bool, true, false, if◌then◌else◌, List, [], ◌∷◌, ◌++◌, append-nil, Option, Some, slice_get, eq-eqb, ◌⊎◌, inl, inr, arith}
+use Rattle.std.proofs.Common.{◌≡◌, ◌≢◌, refl, ap, sym, subst, ◌∙◌, ℕ, ◌<◌, ◌==◌, Bool, true, false, if◌then◌else◌, [], ◌∷◌, ◌++◌, append-nil, Option, Some, slice_get, eq-eqb, inl, inr, arith}
 use Rattle.std.proofs.lemmas.Bool.{eqb-true}
 use Rattle.sync_values.specs.declared.value.Value.{Value}
-use Rattle.flat_model.specs.declared.equation.Equation.{Equation}
-use Rattle.flat_model.specs.declared.equation.Equation.TheVariants.{Valued}
 use Rattle.flat_model.specs.declared.expression.Expr.{Expr}
 use Rattle.flat_model.specs.declared.expression.Expr.TheVariants.{Read}
 use Rattle.flat_model.specs.declared.model.NameKind.{NameKind}
