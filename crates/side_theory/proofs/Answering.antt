@@ -5,7 +5,6 @@ use Rattle.std.proofs.lemmas.Bool.{false≢true}
 use Rattle.std.proofs.lemmas.Option.{same_Some, none-some}
 use Rattle.sync_values.specs.declared.value.Value.{Value}
 use Rattle.flat_model.specs.declared.equation.Equation.{Equation}
-use Rattle.flat_model.specs.declared.equation.Equation.TheVariants.{Valued}
 use Rattle.flat_model.specs.declared.expression.Expr.{Expr}
 use Rattle.flat_model.specs.declared.expression.Expr.TheVariants.{Read, rolls-Read}
 use Rattle.flat_model.specs.declared.clock.ClockExpr.TheOpen.{Expr-F}
@@ -33,8 +32,9 @@ use Rattle.flat_model.proofs.Typed.{IsAnswerOf, IsTypedAt, AreTypedAt, typed_val
 use Rattle.flat_model.proofs.WholeTypes.{whole_typed}
 use Rattle.moment_theory.proofs.FromRunnable.{all_at}
 use Rattle.moment_theory.proofs.Rows.{row_now, row_before, unclocked_at_first}
-use Rattle.side_theory.specs.Sides.{IsSideUse, IsAnswerOfKind}
+use Rattle.side_theory.specs.Sides.{sided, IsSideUse, IsAnswerOfKind}
 use Rattle.side_theory.specs.Typed.{IsTypedRow}
+use Rattle.side_theory.proofs.Sided.{side_clocked, side_typed, side_has}
 use Rattle.side_theory.proofs.Side.{SideFacts, side_facts}
 
 type_of-Read : (types : Types) (x : ℕ) → type_of types (Read x) ≡ valued_type (types x)
@@ -132,13 +132,13 @@ module _ (s : Setting) (runs : IsRunnable s) (S : Assignment) (m : ℕ) (row : R
 
   module _ (uses : List Use) (entry : Use) (side : Expr) (class : ℕ) (is : IsSideUse s entry side class) (facts : SideFacts s entry side class) (equation : Equation) (name : FlatName) (can : CanUse s A m entry equation name) where
     abbrev own : Equation
-    own = Valued (Read entry.name) side is.clause
+    own = sided is.first entry.name side is.clause
 
     reads : HasReadsBut s A m entry.equation entry.name own
     reads = subst (HasReadsBut s A m entry.equation entry.name) (same_Some equation own (sym can.equation_is ∙ is.found)) can.reads
 
     clocked : IsSideClocked s entry.equation side
-    clocked = (runs.equations entry.equation own is.found).1
+    clocked = side_clocked s entry.equation is.first entry.name side is.clause (runs.equations entry.equation own is.found)
 
     not_first : m ≡ 0 → ⊥
     not_first at = none-some class (sym (unclocked_at_first s A (class_of_equation s entry.equation) (subst (λ k. class_ticks s A (class_of_equation s entry.equation) k ≡ true) at can.ticks.1)) ∙ is.class_is)
@@ -146,7 +146,7 @@ module _ (s : Setting) (runs : IsRunnable s) (S : Assignment) (m : ℕ) (row : R
     now_some : (y : ℕ) → 0 < asked side 0 (OfNow y) → IsSome (A y m)
     now_some y asks =
         let other : y ≢ entry.name = λ same. (let bare = facts.bare in let count = asked_bare entry.name side in let h : 0 < asked side 0 (OfNow entry.name) = subst (λ z. 0 < asked side 0 (OfNow z)) same asks in omega (arith, bare, count, h)) in
-        (reads y other).1.bare (let count = asked_bare y side in omega (arith, asks, count))
+        (side_has s A m entry.equation is.first entry.name side is.clause reads y other).bare (let count = asked_bare y side in omega (arith, asks, count))
 
     converted : (y : ℕ) → 0 < asked side 0 (OfLast y) → 0 < converted_count y side
     converted y asks = by_count (held_count y side) refl
@@ -159,7 +159,7 @@ module _ (s : Setting) (runs : IsRunnable s) (S : Assignment) (m : ℕ) (row : R
     last_some y asks ticks =
         let some = converted y asks in
         let other : y ≢ entry.name = λ same. facts.last (inr (subst (λ z. 0 < converted_count z side) same some)) in
-        by_last ((reads y other).1.converted some (meet_where_tick s A m (class_of_equation s entry.equation) (class_of_name s y) (clocked.converted y some).axis can.ticks.1 ticks))
+        by_last ((side_has s A m entry.equation is.first entry.name side is.clause reads y other).converted some (meet_where_tick s A m (class_of_equation s entry.equation) (class_of_name s y) (clocked.converted y some).axis can.ticks.1 ticks))
       where
         by_last : HasLastValue s A m y → IsSome (A y m)
         by_last (inl (known, rests)) = absurd (false≢true (sym rests ∙ ticks))
@@ -194,7 +194,8 @@ module _ (s : Setting) (runs : IsRunnable s) (S : Assignment) (m : ℕ) (row : R
       by_asking OfInterval sampled one = absurd sampled
 
     name_type : IsTyped (types_in s.model.names) own → IsAnswerOf name.kind (value_of side (views_at s A (class_of_equation s entry.equation) m))
-    name_type (type, left, right) =
+    name_type typed =
+        let (type, left, right) = side_typed (types_in s.model.names) is.first entry.name side is.clause typed in
         let own_type : valued_type (types_in s.model.names entry.name) ≡ Some type = sym (type_of-Read (types_in s.model.names) entry.name) ∙ whole_typed (types_in s.model.names) (Read entry.name) type left in
         let of = name_of s entry.name type own_type in
         let same : type ≡ name.kind = sym of.type_is ∙ ap (λ n. n.kind) (same_Some of.name name (sym of.found ∙ can.name_is)) in
@@ -207,4 +208,4 @@ pub is_answer : (s : Setting) (uses : List Use) → IsRunnable s → AreUses s u
 is_answer s uses runs are entry side class used is S m row meets typed equation name can =
     subst (λ c. IsAnswerOfKind name.kind (value_of side (views_at s (with_row S m row) c m))) is.class_is
     (same_answer name.kind _ (name_type s runs S m row meets typed uses entry side class is (side_facts s uses runs are entry side class used is) equation name can
-    (all_at (IsTyped (types_in s.model.names)) s.model.equations entry.equation (Valued (Read entry.name) side is.clause) runs.model.typed.equations is.found)))
+    (all_at (IsTyped (types_in s.model.names)) s.model.equations entry.equation (sided is.first entry.name side is.clause) runs.model.typed.equations is.found)))

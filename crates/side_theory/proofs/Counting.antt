@@ -1,24 +1,21 @@
 -- In a free order the uses of a stretch count.
-use Rattle.std.proofs.Common.{◌≡◌, ◌≢◌, refl, ap, sym, subst, ◌∙◌, ℕ, ◌<◌, ◌==◌, Bool, true, false, if◌then◌else◌, List, [], ◌∷◌, ◌++◌, append_assoc, Option, Some, None, IsSome, slice_get, Contains, ◌⊎◌, inl, inr, arith}
+use Rattle.std.proofs.Common.{◌≡◌, ◌≢◌, refl, ap, sym, subst, ◌∙◌, ℕ, ◌<◌, ◌==◌, Bool, true, false, if◌then◌else◌, List, [], ◌∷◌, ◌++◌, append_assoc, Option, Some, None, IsSome, slice_get, Contains, ◌⊎◌, inl, inr}
 use Rattle.std.proofs.lemmas.Bool.{false≢true, eqb-true, eq-eqb}
 use Rattle.std.proofs.lemmas.Option.{same_Some, none-some}
 use Rattle.sync_values.specs.declared.value.Value.{Value}
 use Rattle.flat_model.specs.declared.clock.Clock.{Clock}
 use Rattle.flat_model.specs.declared.clock.Clock.TheVariants.{Periodic, Event}
 use Rattle.flat_model.specs.declared.equation.Equation.{Equation}
-use Rattle.flat_model.specs.declared.equation.Equation.TheVariants.{Valued}
 use Rattle.flat_model.specs.declared.expression.Expr.{Expr}
-use Rattle.flat_model.specs.declared.expression.Expr.TheVariants.{Read}
 use Rattle.flat_model.specs.Assignment.{Assignment, IsOfKind}
 use Rattle.flat_model.specs.Clocks.{AreOnOneAxis}
 use Rattle.flat_model.specs.Given.{Row, with_row, HasLastValue, HasReadIn, CanUse}
 use Rattle.flat_model.specs.Meaning.{value_of}
-use Rattle.flat_model.specs.Occurrences.{one_if, converted_count}
+use Rattle.flat_model.specs.Occurrences.{converted_count}
 use Rattle.flat_model.specs.Operators.{Is}
 use Rattle.flat_model.specs.Runnable.{IsSideClocked}
 use Rattle.flat_model.specs.Setting.{Setting, class_of_name, class_of_equation, clock_of, partition_of, class_ticks, name_ticks, views_at}
 use Rattle.flat_model.specs.Uses.{Use, ClassesMeet, Reads}
-use Rattle.flat_model.proofs.Levels.{bare_count-Read, held_count-Read, converted_count-Read}
 use Rattle.moment_theory.specs.Free.{IsReachedBy, IsFree, AreFree, IsOrdered}
 use Rattle.moment_theory.specs.Taken.{put}
 use Rattle.moment_theory.proofs.Facts.{UseFacts, facts_of_use}
@@ -29,9 +26,10 @@ use Rattle.moment_theory.proofs.Rows.{row_now, known_axis}
 use Rattle.moment_theory.proofs.Unknown.{known_where_ticks}
 use Rattle.step_code.specs.Lines.{Line}
 use Rattle.side_theory.specs.Counted.{Begins}
-use Rattle.side_theory.specs.Sides.{IsSideUse, IsAnswerOfKind, Counts}
+use Rattle.side_theory.specs.Sides.{sided, IsSideUse, IsAnswerOfKind, Counts}
 use Rattle.side_theory.specs.Stretches.{AreLinesOf, AreCounted}
 use Rattle.side_theory.specs.Typed.{IsTypedRow}
+use Rattle.side_theory.proofs.Sided.{side_clocked, side_classed, all_reads, side_reads}
 use Rattle.side_theory.proofs.Side.{SideFacts, side_facts}
 use Rattle.side_theory.proofs.Answering.{is_answer}
 use Rattle.side_theory.proofs.Showing.{ticks_same}
@@ -48,10 +46,6 @@ pub free_behind : (s : Setting) (before rest : List Use) → AreFree s (before +
 free_behind s [] rest free = free
 free_behind s (entry ∷ before) rest free = free_behind s before rest free.1
 
-one_if_none : (b : Bool) → 0 < one_if b → b ≡ true
-one_if_none true h = refl
-one_if_none false h = absurd (omega (arith, h))
-
 no_axis : (c : Option Clock) → AreOnOneAxis c None → ⊥
 no_axis None axis = axis
 no_axis (Some (Periodic period start)) axis = axis
@@ -63,7 +57,7 @@ module _ (s : Setting) (uses before later : List Use) (entry : Use) (ordered : I
   A = with_row S m row
 
   abbrev own : Equation
-  own = Valued (Read entry.name) side is.clause
+  own = sided is.first entry.name side is.clause
 
   pub use_is : UseFacts s entry
   use_is = facts_of_use s uses ordered.uses_are.uses_are entry used
@@ -75,7 +69,7 @@ module _ (s : Setting) (uses before later : List Use) (entry : Use) (ordered : I
   free = (free_behind s before (entry ∷ later) ordered.free).0
 
   clocked : IsSideClocked s entry.equation side
-  clocked = (ordered.runs.equations entry.equation own is.found).1
+  clocked = side_clocked s entry.equation is.first entry.name side is.clause (ordered.runs.equations entry.equation own is.found)
 
   pub ticks : class_ticks s A (class_of_equation s entry.equation) m ≡ true
   ticks = ap (λ c. class_ticks s A c m) is.class_is ∙ begins.ticks
@@ -108,9 +102,9 @@ module _ (s : Setting) (uses before later : List Use) (entry : Use) (ordered : I
   right_has : (y : ℕ) → y ≢ entry.name → HasReadIn s A m entry.equation side y
   right_has y other = record {
     bare = λ some.
-        let of = (facts_of s ordered.runs).classed.sides entry.equation (Read entry.name) side is.clause is.found in
-        let (valued, same) = of.1.bare y some in
-        has_value y (begins.all y (reached y valued (classed y same) other (own, is.found, inr (inl some))) (own_partition y same) (ap (λ c. class_ticks s A c m) same ∙ ticks));
+        let of = side_classed s (facts_of s ordered.runs).classed entry.equation is.first entry.name side is.clause is.found in
+        let (valued, same) = of.bare y some in
+        has_value y (begins.all y (reached y valued (classed y same) other (own, is.found, side_reads s entry.equation is.first entry.name side is.clause y (inl some))) (own_partition y same) (ap (λ c. class_ticks s A c m) same ∙ ticks));
     held = λ some. absurd (none-some class (sym (clocked.held y some).1 ∙ is.class_is));
     converted = λ some meet. by_tick some meet (name_ticks s A y m) refl;
   }
@@ -118,25 +112,17 @@ module _ (s : Setting) (uses before later : List Use) (entry : Use) (ordered : I
       by_tick : 0 < converted_count y side → (meet : ClassesMeet s (class_of_equation s entry.equation) (class_of_name s y)) → (b : Bool) → name_ticks s A y m ≡ b → HasLastValue s A m y
       by_tick some meet false rests = inl (known_axis s A m (clock_of s (class_of_equation s entry.equation)) (clock_of s (class_of_name s y)) (clocked.converted y some).axis (known_where_ticks s A m (class_of_equation s entry.equation) ticks), rests)
       by_tick some meet true now =
-          let of = (facts_of s ordered.runs).classed.sides entry.equation (Read entry.name) side is.clause is.found in
+          let of = side_classed s (facts_of s ordered.runs).classed entry.equation is.first entry.name side is.clause is.found in
           let convertible = clocked.converted y some in
           let has_class : class_of_name s y ≢ None = λ none. no_axis (clock_of s (class_of_equation s entry.equation)) (subst (λ c. AreOnOneAxis (clock_of s (class_of_equation s entry.equation)) (clock_of s c)) none convertible.axis) in
-          inr (has_value y (begins.all y (reached y (of.1.last y (inr some)) has_class other (own, is.found, inr (inr (inr (some, meet))))) (convertible.partition ∙ ap (partition_of s) is.class_is) now))
-
-  -- the left side reads the own name alone
-  left_has : (y : ℕ) → y ≢ entry.name → HasReadIn s A m entry.equation (Read entry.name) y
-  left_has y other = record {
-    bare = λ some. absurd (other (sym (eqb-true entry.name y (one_if_none (entry.name == y) (subst (λ n. 0 < n) (bare_count-Read y entry.name) some)))));
-    held = λ some. absurd (let none = held_count-Read y entry.name in omega (arith, some, none));
-    converted = λ some meet. absurd (let none = converted_count-Read y entry.name in omega (arith, some, none));
-  }
+          inr (has_value y (begins.all y (reached y (of.last y (inr some)) has_class other (own, is.found, side_reads s entry.equation is.first entry.name side is.clause y (inr (inr (some, meet))))) (convertible.partition ∙ ap (partition_of s) is.class_is) now))
 
   pub can_use : CanUse s A m entry own use_is.name
   can_use = record {
     equation_is = is.found;
     name_is = use_is.name_found;
     ticks = (known_where_ticks s A m (class_of_equation s entry.equation) ticks, ticks);
-    reads = λ y other. (left_has y other, right_has y other);
+    reads = all_reads s A m entry.equation is.first entry.name side is.clause right_has;
   }
 
   typed : IsAnswerOfKind use_is.name.kind (value_of side (views_at s A (Some class) m))

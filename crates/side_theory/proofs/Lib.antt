@@ -1,3 +1,4 @@
+pub mod Sided
 pub mod Side
 pub mod Showing
 pub mod Turns

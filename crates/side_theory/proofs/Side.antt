@@ -1,5 +1,5 @@
--- A use of an equation `name = side` gives the value of its side, or fails as it does.
-use Rattle.std.proofs.Common.{◌≡◌, ◌≢◌, refl, ap, sym, subst, ◌∙◌, ℕ, ◌-◌, Bool, true, false, if◌then◌else◌, List, [], ◌∷◌, ◌++◌, Option, Some, Contains, eq-eqb, arith, inl, inr}
+-- A use of an equation `name = side` or `side = name` gives the value of its side, or fails as it does.
+use Rattle.std.proofs.Common.{◌≡◌, ◌≢◌, refl, ap, sym, subst, ◌∙◌, ℕ, ◌-◌, true, List, [], ◌∷◌, Option, Some, Contains, arith}
 use Rattle.std.proofs.lemmas.Option.{same_Some, none-some}
 use Rattle.sync_values.specs.declared.value.Value.{Value}
 use Rattle.sync_values.specs.declared.value.Fail.{Fail}
@@ -10,16 +10,15 @@ use Rattle.flat_model.specs.declared.expression.Expr.TheVariants.{Read}
 use Rattle.flat_model.specs.Assignment.{Assignment, IsOfKind}
 use Rattle.flat_model.specs.Faults.{EquationFails}
 use Rattle.flat_model.specs.Given.{Row, with_row, with_value, CanUse}
-use Rattle.flat_model.specs.Meaning.{seen_by, value_of}
-use Rattle.flat_model.specs.Occurrences.{one_if, bare_count}
+use Rattle.flat_model.specs.Meaning.{value_of}
+use Rattle.flat_model.specs.Occurrences.{bare_count}
 use Rattle.flat_model.specs.Operators.{Answer, Is, Fails, Absent, read}
-use Rattle.flat_model.specs.Parts.{beside_of, way_to, parts_beside, kind_of}
+use Rattle.flat_model.specs.Parts.{kind_of}
 use Rattle.flat_model.specs.Runnable.{IsRunnable}
 use Rattle.flat_model.specs.Setting.{Setting, class_of_name, class_of_equation, class_ticks, views_at}
 use Rattle.flat_model.specs.Uses.{Use, AreUses, IsSolvableFor, SiteReads}
 use Rattle.flat_model.specs.Views.{Views}
 use Rattle.flat_model.proofs.Agreement.{SameBefore}
-use Rattle.flat_model.proofs.Levels.{bare_count-Read, way_to-Read}
 use Rattle.flat_model.proofs.Links.{asked_bare}
 use Rattle.flat_model.proofs.Sites.{class_ticks_by_site}
 use Rattle.flat_model.proofs.Values.{value_of-Read}
@@ -28,30 +27,25 @@ use Rattle.moment_theory.specs.Taken.{Gives}
 use Rattle.moment_theory.proofs.Alike.{same_but}
 use Rattle.moment_theory.proofs.Facts.{facts_of_use, class_of_use}
 use Rattle.moment_theory.proofs.FromRunnable.{facts_of}
-use Rattle.moment_theory.proofs.PartsRest.{same_without, is_way}
+use Rattle.moment_theory.proofs.PartsRest.{same_without}
 use Rattle.moment_theory.proofs.Rows.{value_now, value_other, value_before, unclocked_at_first}
 use Rattle.moment_theory.proofs.Unknown.{site_same}
-use Rattle.side_theory.specs.Sides.{IsSideUse, IsAnswerOfKind, Counts, DoesAs}
+use Rattle.side_theory.specs.Sides.{sided, IsSideUse, IsAnswerOfKind, Counts, DoesAs}
+use Rattle.side_theory.proofs.Sided.{no_count, one_value, both_values, beside}
 
--- what is known of a use `name = side`
+-- what is known of a use of a name and a side
 pub record SideFacts (s : Setting) (entry : Use) (side : Expr) (class : ℕ) : Type 0 where
   pub bare : bare_count entry.name side ≡ 0
   pub last : AsksLastIn side entry.name → ⊥
   pub clocked : class_of_name s entry.name ≡ Some class
   pub sites : (c : Option ℕ) (y : ℕ) → SiteReads s c y → y ≢ entry.name
 
-no_count : (x : ℕ) (side : Expr) (clause : Option ℕ) → IsSolvableFor x (Valued (Read x) side clause) → (bare_count x side ≡ 0) × (AsksLastIn side x → ⊥)
-no_count x side clause solvable =
-    let total = solvable.0 in
-    let own : bare_count x (Read x) ≡ 1 = bare_count-Read x x ∙ ap one_if (eq-eqb x x refl) in
-    (omega (arith, total, own), λ asks. elim asks [ inl some ↦ omega (arith, total, own, some) | inr some ↦ omega (arith, total, own, some) ])
-
 pub side_facts : (s : Setting) (uses : List Use) → IsRunnable s → AreUses s uses → (entry : Use) (side : Expr) (class : ℕ) → Contains uses entry → IsSideUse s entry side class → SideFacts s entry side class
 side_facts s uses runs are entry side class used is =
     let facts = facts_of s runs in
     let use_is = facts_of_use s uses are entry used in
-    let same : Valued use_is.left use_is.right use_is.clause ≡ Valued (Read entry.name) side is.clause = same_Some (Valued use_is.left use_is.right use_is.clause) (Valued (Read entry.name) side is.clause) (sym use_is.found ∙ is.found) in
-    let none = no_count entry.name side is.clause (subst (IsSolvableFor entry.name) same use_is.solvable) in
+    let same : Valued use_is.left use_is.right use_is.clause ≡ sided is.first entry.name side is.clause = same_Some (Valued use_is.left use_is.right use_is.clause) (sided is.first entry.name side is.clause) (sym use_is.found ∙ is.found) in
+    let none = no_count entry.name is.first side is.clause (subst (IsSolvableFor entry.name) same use_is.solvable) in
     let clocked : class_of_name s entry.name ≡ Some class = class_of_use s facts entry use_is ∙ is.class_is in
     record {
       bare = none.0;
@@ -69,7 +63,7 @@ module _ (s : Setting) (uses : List Use) (runs : IsRunnable s) (entry : Use) (si
   A = with_row S m row
 
   abbrev own : Equation
-  own = Valued (Read x) side is.clause
+  own = sided is.first x side is.clause
 
   -- with any value of the name the side answers alike
   side_same : class_ticks s A (class_of_equation s entry.equation) m ≡ true → (w : Value) → value_of side (views_at s A (class_of_equation s entry.equation) m) ≡ value_of side (views_at s (with_value A m x w) (class_of_equation s entry.equation) m)
@@ -87,18 +81,6 @@ module _ (s : Setting) (uses : List Use) (runs : IsRunnable s) (entry : Use) (si
   own_value : (w : Value) → value_of (Read x) (views_at s (with_value A m x w) (class_of_equation s entry.equation) m) ≡ Is w
   own_value w = value_of-Read x (views_at s (with_value A m x w) (class_of_equation s entry.equation) m)
       ∙ ap read (subst (λ k. with_value A m x w x k ≡ Some w) (let h : m ≡ m - 0 = omega arith in h) (value_now A m x w))
-
-  -- beside the way to the name stands the side alone
-  not_reached : (b : Bool) → (way_to x side).reaches ≡ b → b ≡ false
-  not_reached true r = absurd (let some = (is_way x side).some r in let count = asked_bare x side in let none = facts.bare in omega (arith, some, count, none))
-  not_reached false r = refl
-
-  beside : (views : Views) → seen_by views (parts_beside x own) ≡ value_of side views ∷ []
-  beside views =
-      ap (λ way. seen_by views (beside_of way ++ beside_of (way_to x side))) (way_to-Read x x)
-      ∙ ap (λ b. seen_by views ((if b then [] else ((λ v. read ((v 0).now x)) ∷ [])) ++ beside_of (way_to x side))) (eq-eqb x x refl)
-      ∙ ap (λ b. seen_by views (if b then (way_to x side).beside else ((way_to x side).meaning ∷ []))) (not_reached (way_to x side).reaches refl)
-      ∙ ap (λ a. a ∷ []) ((is_way x side).means views)
 
   same_Is : (a b : Value) → Is a ≡ Is b → a ≡ b
   same_Is a b e = cc
@@ -123,10 +105,11 @@ module _ (s : Setting) (uses : List Use) (runs : IsRunnable s) (entry : Use) (si
       can = can;
       only = record {
         typed = typed;
-        solves = (v, own_value v, sym (side_same can.ticks.1 v) ∙ h);
-        only = λ w typed (u, one, two).
-            let first : Is w ≡ Is u = sym (own_value w) ∙ one in
-            let second : Is u ≡ Is v = sym two ∙ sym (side_same can.ticks.1 w) ∙ h in
+        solves = one_value (views_at s (with_value A m x v) (class_of_equation s entry.equation) m) is.first x side is.clause v (own_value v) (sym (side_same can.ticks.1 v) ∙ h);
+        only = λ w typed solves.
+            let both = both_values (views_at s (with_value A m x w) (class_of_equation s entry.equation) m) is.first x side is.clause solves in
+            let first : Is w ≡ Is both.0 = sym (own_value w) ∙ both.1 in
+            let second : Is both.0 ≡ Is v = sym both.2 ∙ sym (side_same can.ticks.1 w) ∙ h in
             same_Is w v (first ∙ second);
       };
     }
@@ -139,8 +122,10 @@ module _ (s : Setting) (uses : List Use) (runs : IsRunnable s) (entry : Use) (si
       equation = own;
       name = counts.name;
       counts = can;
-      unsolved = λ v typed (u, one, two). is_fails u kind (sym two ∙ sym (side_same can.ticks.1 v) ∙ h);
-      kind_is = sym (ap kind_of (beside here ∙ ap (λ a. a ∷ []) h));
+      unsolved = λ v typed solves.
+          let both = both_values (views_at s (with_value A m x v) (class_of_equation s entry.equation) m) is.first x side is.clause solves in
+          is_fails both.0 kind (sym both.2 ∙ sym (side_same can.ticks.1 v) ∙ h);
+      kind_is = sym (ap kind_of (beside x side facts.bare is.clause here is.first ∙ ap (λ a. a ∷ []) h));
     }
 
     does : Contains uses entry → (a : Answer) → value_of side here ≡ a → IsAnswerOfKind counts.name.kind a → DoesAs s uses S m row entry a

@@ -1,5 +1,5 @@
--- What the side of an equation `name = side` tells of its use. This project's own.
-use Rattle.std.specs.Prelude.{◌≡◌, ℕ, List, Option, Some, slice_get, Contains}
+-- What the side of an equation `name = side` or `side = name` tells of its use. This project's own.
+use Rattle.std.specs.Prelude.{◌≡◌, ℕ, Bool, true, false, List, Option, Some, slice_get, Contains}
 use Rattle.flat_model.specs.declared.equation.Equation.{Equation}
 use Rattle.flat_model.specs.declared.equation.Equation.TheVariants.{Valued}
 use Rattle.flat_model.specs.declared.expression.Expr.{Expr}
@@ -16,10 +16,16 @@ use Rattle.flat_model.specs.Setting.{Setting, class_of_equation, views_at}
 use Rattle.flat_model.specs.Uses.{Use, AreUses}
 use Rattle.moment_theory.specs.Taken.{Gives}
 
--- the equation of a use is `name = side`, and of a class
+-- an equation between a name and a side, with the name first or last
+abbrev pub sided : Bool → ℕ → Expr → Option ℕ → Equation
+sided true x side clause = Valued (Read x) side clause
+sided false x side clause = Valued side (Read x) clause
+
+-- the equation of a use is `name = side` or `side = name`, and of a class
 pub record IsSideUse (s : Setting) (entry : Use) (side : Expr) (class : ℕ) : Type 0 where
   pub clause : Option ℕ
-  pub found : slice_get s.model.equations entry.equation ≡ Some (Valued (Read entry.name) side clause)
+  pub first : Bool
+  pub found : slice_get s.model.equations entry.equation ≡ Some (sided first entry.name side clause)
   pub class_is : class_of_equation s entry.equation ≡ Some class
 
 -- a value of the type, or a failure

@@ -1,4 +1,4 @@
--- Several equations `name = side` of one class, one after the other. This project's own.
+-- Several equations between a name and a side, of one class, one after the other. This project's own.
 use Rattle.std.specs.Prelude.{◌≡◌, ℕ, List, [], ◌∷◌, ◌++◌, length, Some, Contains}
 use Rattle.sync_values.specs.declared.value.Value.{Value}
 use Rattle.sync_values.specs.declared.value.Fail.{Fail}

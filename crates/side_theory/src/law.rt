@@ -6,7 +6,7 @@ ghost use Rattle.side_theory.specs.Sides.{SideLaw};
 ghost use Rattle.side_theory.specs.Stretches.{StretchLaw};
 ghost use Rattle.side_theory.specs.Typed.{TypedLaw};
 
-/// A use of an equation `name = side` does over a row what its side answers there.
+/// A use of an equation `name = side` or `side = name` does over a row what its side answers there.
 pub fn side_law()
     ensures { SideLaw }
 {}

@@ -1,4 +1,5 @@
-//! Equations `name = side` of clocked names: what their sides give, one after the other, is what their uses give.
+//! Equations between a clocked name and a side, `name = side` or `side = name`: what their sides give, one after the
+//! other, is what their uses give.
 //!
 //! Each function is a law: it does nothing, and its contract is a statement on the definitions of `flat_model`, of
 //! `moment_theory` and of `step_code`.
