@@ -1,4 +1,12 @@
+pub mod Again
 pub mod Alone
+pub mod Caring
+pub mod Carrying
+pub mod Failing
+pub mod Joining
 pub mod Looping
+pub mod Marking
 pub mod Readying
+pub mod Stepping
+pub mod Telling
 pub mod Turning

@@ -1,4 +1,6 @@
+ghost use Rattle.first_failure.specs.CarefulLaws.{CarefulLaw};
 ghost use Rattle.first_failure.specs.Lone.{LoneLaw};
+ghost use Rattle.first_failure.specs.MomentLaws.{AgainLaw, MomentLaw, SomeLaw};
 ghost use Rattle.first_failure.specs.Ready.{ReadyLaw};
 ghost use Rattle.first_failure.specs.Turns.{LeastLaw};
 
@@ -15,4 +17,25 @@ pub fn ready_law()
 /// A run of one line that is ready does what its use does over the row, whatever failed before.
 pub fn lone_law()
     ensures { LoneLaw }
+{}
+
+/// The careful run takes the uses of its lines, and tells the least of exactly those of their equations that fail over
+/// the row that they leave; nothing is told where none fails.
+pub fn careful_law()
+    ensures { CarefulLaw }
+{}
+
+/// A run of the stretches of a base partition that failed leaves the cells set for the careful run.
+pub fn again_law()
+    ensures { AgainLaw }
+{}
+
+/// Where the run of the stretches failed, the least equation that fails over the row that all uses leave is there.
+pub fn some_law()
+    ensures { SomeLaw }
+{}
+
+/// What is told of the uses of a base partition holds over the values of the moment.
+pub fn moment_law()
+    ensures { MomentLaw }
 {}
