@@ -2,11 +2,12 @@ pub mod Cells
 pub mod Columns
 pub mod Counts
 pub mod Found
+pub mod Held
 pub mod NoTable
 pub mod Numbers
 pub mod Once
 pub mod OneRow
-pub mod Held
+pub mod PlainRecords
 pub mod Standing
 pub mod Sums
 pub mod Texts

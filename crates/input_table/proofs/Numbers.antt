@@ -1,13 +1,15 @@
 -- What `parse` reads as an Integer is a value of the table, and the other way round.
-use Rattle.std.proofs.Common.{◌≡◌, ◌≢◌, ◌∙◌, sym, subst, ap, refl, ℕ, zero, suc, ◌<◌, ◌≤◌, ◌^◌, ◌⊎◌, inl, inr, List, [], ◌∷◌, ◌++◌, length, drop, get_or, codes, ℤ, pos, neg_ℤ, Result, Ok, Err, MatchResult, arith, w64}
+use Rattle.std.proofs.Common.{◌≡◌, ◌≢◌, ◌∙◌, sym, subst, ap, refl, ℕ, zero, suc, ◌<◌, ◌≤◌, ◌^◌, ◌⊎◌, inl, inr, List, [], ◌∷◌, ◌++◌, length, drop, take, get_or, ◌+◌, ◌*◌, codes, ℤ, pos, neg_ℤ, Result, Ok, Err, MatchResult, arith, w64}
 use Rattle.std.specs.Str.{IsAscii, IsUtf8}
 use Rattle.std.specs.Int.{IsInRange as IsBetween}
 use Rattle.std.specs.Str.Parse.{AllDigits, digits_value, ParsesSigned}
 use Rattle.std.specs.Result.{OkIff}
 use Rattle.std.proofs.lemmas.Str.{IsUtf8-from_ascii}
-use Rattle.std.proofs.lemmas.Str.Parse.{IsNumeralModel, numerals_by_value, tells_digits, parse_signed_plain, parse_signed_plus, parse_signed_minus, digit_at}
+use Rattle.std.proofs.lemmas.Str.Parse.{IsNumeralModel, numerals_by_value, tells_digits, parse_signed_plain, parse_signed_plus, parse_signed_minus, digit_at, digits_value_short}
 use Rattle.std.proofs.lemmas.Bool.Decides.{eqb_tells, leb_tells}
-use Rattle.std.proofs.lemmas.List.{get_or_past}
+use Rattle.std.proofs.lemmas.List.{get_or_past, length-take-le, take_all}
+use Rattle.std.proofs.lemmas.Int.Digits.{digits_more, digits_value_more}
+use Rattle.std.specs.Char.{digit_value}
 use Rattle.sync_values.specs.declared.value.Value.{Value}
 use Rattle.sync_values.specs.declared.value.Value.TheVariants as value
 use Rattle.flat_model.specs.declared.model.NameKind.{NameKind}
@@ -87,6 +89,58 @@ integer_is text r h = elim (eqb_tells (get_or text 0 0) 43) [
     | inr b ↦ read_plain text r a.1 b.1 (parse_signed_plain own w64 text r h a.1 b.1)
   ]
 ]
+
+-- a text by its sign, where no digits follow
+pub no_minus : (text digits : List ℕ) → text ≡ 45 ∷ digits → (0 < length digits → AllDigits 10 digits → ⊥) → (v : Value) → IsValue text kind.Integer v → ⊥
+no_minus text digits is none = rw is (read_minus {E = Unit {0}} (45 ∷ digits) (Err tt) refl (λ (all, some, small). none some all))
+
+pub no_plus : (text digits : List ℕ) → text ≡ 43 ∷ digits → (0 < length digits → AllDigits 10 digits → ⊥) → (v : Value) → IsValue text kind.Integer v → ⊥
+no_plus text digits is none = rw is (read_plus {E = Unit {0}} (43 ∷ digits) (Err tt) refl (λ (all, some, small). none some all))
+
+pub no_plain : (text digits : List ℕ) (first : ℕ) → text ≡ first ∷ digits → first ≢ 45 → first ≢ 43 → (0 < length text → AllDigits 10 text → ⊥) → (v : Value) → IsValue text kind.Integer v → ⊥
+no_plain text digits first is not_minus not_plus none =
+    let head : get_or text 0 0 ≡ first = ap (λ t. get_or t 0 0) is in
+    read_plain {E = Unit {0}} text (Err tt) (λ e. not_plus (sym head ∙ e)) (λ e. not_minus (sym head ∙ e)) (λ (all, some, small). none some all)
+
+pub no_empty : (text : List ℕ) → length text ≡ 0 → (v : Value) → IsValue text kind.Integer v → ⊥
+no_empty [] short = read_plain {E = Unit {0}} [] (Err tt) (λ e. omega (arith, e)) (λ e. omega (arith, e)) (λ (all, some, small). omega (arith, some))
+no_empty (c ∷ cs) short = absurd (omega arith)
+
+-- and where digits follow
+pub is_minus : (text digits : List ℕ) (n : ℕ) → text ≡ 45 ∷ digits → 0 < length digits → AllDigits 10 digits → n ≡ digits_value 10 digits → n < 2 ^ 63 → IsValue text kind.Integer (value.Int (neg_ℤ (pos n)))
+is_minus text digits n is some all value small = rw value (negative digits is some all (omega (arith, value)))
+
+pub is_plus : (text digits : List ℕ) (n : ℕ) → text ≡ 43 ∷ digits → 0 < length digits → AllDigits 10 digits → n ≡ digits_value 10 digits → n < 2 ^ 63 → IsValue text kind.Integer (value.Int (pos n))
+is_plus text digits n is some all value small = rw value (natural (codes "+") digits is (inr refl) some all (omega (arith, value)))
+
+pub is_plain : (text : List ℕ) (n : ℕ) → 0 < length text → AllDigits 10 text → n ≡ digits_value 10 text → n < 2 ^ 63 → IsValue text kind.Integer (value.Int (pos n))
+is_plain text n some all value small = rw value (natural [] text refl (inl refl) some all (omega (arith, value)))
+
+-- a digit more, of a text of digits
+pub digit_more : (text : List ℕ) (at value digit : ℕ) → at < length text → AllDigits 10 (take at text) → value ≡ digits_value 10 (take at text) →
+    digit_value (get_or text at 0) < 10 → digit_value (get_or text at 0) ≡ digit →
+    AllDigits 10 (take (at + 1) text) × (value * 10 + digit ≡ digits_value 10 (take (at + 1) text))
+digit_more text at value digit h all v below d =
+    (digits_more 10 text at h all below, omega (arith, digits_value_more 10 text at h, v, d))
+
+-- the number of at most 18 digits
+pub digits_small : (text : List ℕ) (at : ℕ) → at ≤ length text → at ≤ 18 → AllDigits 10 (take at text) → digits_value 10 (take at text) < 10 ^ 18
+digits_small text at inside few all =
+    digits_value_short (record { to = λ ds h. h; from = λ ds h. h; same = λ ds h. refl }) (take at text) 18 all (omega (arith, length-take-le at text inside))
+
+-- the number of a whole text of digits
+pub whole_number : (text : List ℕ) (at value : ℕ) → length text ≤ at → at ≤ length text → length text ≤ 18 → AllDigits 10 (take at text) → value ≡ digits_value 10 (take at text)
+    → AllDigits 10 text × (value ≡ digits_value 10 text) × (value < 2 ^ 63)
+whole_number text at value past inside few all is =
+    let small = digits_small text at inside (omega arith) all in
+    let whole : take at text ≡ text = take_all at text past in
+    (subst (AllDigits 10) whole all, is ∙ ap (digits_value 10) whole, omega (arith, small, is))
+
+-- a byte that is no digit is in no text of digits
+pub other_byte : (text : List ℕ) (at : ℕ) → at < length text → 10 ≤ digit_value (get_or text at 0) → AllDigits 10 text → ⊥
+other_byte [] at h big all = absurd (omega arith)
+other_byte (x ∷ xs) zero h big all = omega (arith, all.0)
+other_byte (x ∷ xs) (suc at) h big all = other_byte xs at (omega arith) big all.1
 
 -- digits are ASCII
 digits_ascii : (digits : List ℕ) → AllDigits 10 digits → IsAscii digits

@@ -1,10 +1,9 @@
 -- The whole table: its answers, and that it is one of the model.
 use Rattle.std.proofs.Common.{◌≡◌, ◌∙◌, ap, sym, subst, refl, ℕ, zero, suc, ◌+◌, ◌*◌, ◌<◌, ◌≤◌, ◌^◌, inl, inr, List, [], ◌∷◌, ◌++◌, length, Option, Some, None, Result, Ok, Err, IfOk, slice_get, pos, neg_ℤ, arith}
-use Rattle.std.specs.Borrow.{Bor}
 use Rattle.std.proofs.lemmas.Option.{slice_get_within}
 use Rattle.std.proofs.lemmas.List.{length-append}
 use Rattle.std.proofs.lemmas.Bool.Decides.{nat_tests}
-use Rattle.csv.specs.declared.reader.Reader.{Reader}
+use Rattle.input_table.specs.declared.records.Records.{Records}
 use Rattle.rational_time.specs.declared.ratio.Ratio.{Ratio}
 use Rattle.sync_values.specs.Arithmetic.{fitted}
 use Rattle.sync_values.specs.declared.value.Value.{Value}
@@ -66,7 +65,7 @@ rows_count form names columns before (r ∷ records_) (w ∷ rows) are = ap suc 
 
 -- a record was read: one more row, at the next number
 pub reads_more : (form : Form) (names : List FlatName) (columns : List ℕ) (text : List ℕ) (header record_ : Record) (number : ℕ) (times times_ : List Ratio) (cells cells_ : List Value)
-    (old new : Reader (Bor (List ℕ))) (done : Unit {0}) → (reading : IsReading form names columns text header number times cells old)
+    (old new : Records) (done : Unit {0}) → (reading : IsReading form names columns text header number times cells old)
     → IsStanding text ((header ∷ reading.records_) ++ record_ ∷ []) new
     → RowAnswers form names columns reading.rows record_ number (Ok done) times_ cells_ → IsReading form names columns text header (number + 1) times_ cells_ new
 reads_more form names columns text header record_ number times times_ cells cells_ old new done reading standing (row, is, hold) = record {
@@ -80,7 +79,7 @@ reads_more form names columns text header record_ number times times_ cells cell
 
 -- a record breaks a rule
 pub row_breaks : (form : Form) (names : List FlatName) (columns : List ℕ) (text : List ℕ) (header record_ : Record) (number : ℕ) (times times_ : List Ratio) (cells cells_ : List Value)
-    (old new : Reader (Bor (List ℕ))) (end : TableEnd) → (reading : IsReading form names columns text header number times cells old)
+    (old new : Records) (end : TableEnd) → (reading : IsReading form names columns text header number times cells old)
     → IsStanding text ((header ∷ reading.records_) ++ record_ ∷ []) new
     → RowAnswers form names columns reading.rows record_ number (Err end) times_ cells_ → BodyAnswers form names columns (records_of text) header (Err end)
 row_breaks form names columns text header record_ number times times_ cells cells_ old new (Fault code (place.Cell row column)) reading standing (row_is, breaks) =
@@ -110,7 +109,7 @@ no_times [] is = refl
 no_times (row ∷ rows) is = cc
 
 -- no record is left
-pub all_read : (form : Form) (names : List FlatName) (columns : List ℕ) (text : List ℕ) (header : Record) (number : ℕ) (times : List Ratio) (cells : List Value) (rdr : Reader (Bor (List ℕ)))
+pub all_read : (form : Form) (names : List FlatName) (columns : List ℕ) (text : List ℕ) (header : Record) (number : ℕ) (times : List Ratio) (cells : List Value) (rdr : Records)
     (r : Result Table TableEnd) → (reading : IsReading form names columns text header number times cells rdr) → records_of text ≡ header ∷ reading.records_
     → WholeAnswers times columns cells r → BodyAnswers form names columns (records_of text) header r
 all_read form names columns text header number times cells rdr (Ok table) reading all (some, times_are, columns_are, cells_are) = (
@@ -145,7 +144,7 @@ all_read form names columns text header number times cells rdr (Err end) reading
     none_left (r ∷ records_) (w ∷ rows) are is = cc
 
 -- as many records as numbers are too many
-pub too_many : (form : Form) (names : List FlatName) (columns : List ℕ) (text : List ℕ) (header : Record) (number : ℕ) (times : List Ratio) (cells : List Value) (rdr : Reader (Bor (List ℕ)))
+pub too_many : (form : Form) (names : List FlatName) (columns : List ℕ) (text : List ℕ) (header : Record) (number : ℕ) (times : List Ratio) (cells : List Value) (rdr : Records)
     → IsReading form names columns text header number times cells rdr → length text + 2 ≤ number → ⊥
 too_many form names columns text header number times cells rdr reading past =
     let few = they_are_few text (header ∷ reading.records_) rdr reading.standing in omega (arith, few, past, reading.count)

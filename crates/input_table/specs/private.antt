@@ -1,3 +1,4 @@
 pub mod Finding
+pub mod Plain
 pub mod Standing
 pub mod Reading

@@ -1,10 +1,11 @@
-ghost use Rattle.std.specs.Prelude.{◌≡◌, ◌↔◌, ◌++◌, ℕ, List, IsTrue, IfSome, MatchOption, codes};
+ghost use Rattle.std.specs.Prelude.{◌≡◌, ◌↔◌, ◌++◌, ◌^◌, ◌<◌, ◌≤◌, ℕ, List, IsTrue, IfSome, MatchOption, codes, length, pos, neg_ℤ, if◌then◌else◌};
 ghost use Rattle.rational_time.specs.declared.ratio.Ratio.{Ratio};
 ghost use Rattle.sync_values.specs.declared.value.Value.{Value};
 ghost use Rattle.input_table.specs.Fields.{without_first_blanks, without_last_blanks, trimmed, text_in, IsTimeText, IsValue};
 ghost use Rattle.flat_model.specs.Tables.{IsTime};
 ghost use Rattle.input_table.specs.Rows.{IsInstant, IsCell, IsSum};
 ghost use Rattle.csv.specs.Records.{fields_of};
+ghost use Rattle.std.specs.Str.Parse.{AllDigits, digits_value};
 
 use crate::header::Form;
 use csv::ByteRecord;
@@ -125,8 +126,62 @@ pub(crate) fn instant_of(form: Form, before: Option<Ratio>, text: &[u8]) -> Opti
     }
 }
 
+/// The number that decimal digits write.
+fn natural(digits: &[u8]) -> Option<u64>
+    requires { length digits.now ≤ 18 }
+    ensures { MatchOption result
+        (0 < length digits.now → AllDigits 10 digits.now → ⊥)
+        (λ n. (0 < length digits.now) × AllDigits 10 digits.now
+        × (n ≡ digits_value 10 digits.now) × (n < 2 ^ 63)) }
+{
+    if digits.is_empty() {
+        return None;
+    }
+    let mut value = 0;
+    for digit in digits {
+        if !digit.is_ascii_digit() {
+            return None;
+        }
+        value = value * 10 + u64::from(digit - b'0');
+    }
+    Some(value)
+}
+
+/// A number with its sign.
+fn signed(negative: bool, size: u64) -> i64
+    requires { size < 2 ^ 63 }
+    ensures { result ≡ (if negative then neg_ℤ (pos size) else pos size) }
+{
+    let size = size as i64;
+    if negative { -size } else { size }
+}
+
 /// The Integer that a text writes.
 fn integer_of(text: &[u8]) -> Option<Value>
+    ensures { MatchOption result
+        ((v : Value) → IsValue text.now NameKind.Integer v → ⊥)
+        (IsValue text.now NameKind.Integer) }
+{
+    if text.len() > 18 {
+        return long_integer_of(text);
+    }
+    let Some((first, digits)) = text.split_first() else {
+        return None;
+    };
+    if *first == b'-' {
+        let size = natural(digits)?;
+        return Some(Value::Int(signed(true, size)));
+    }
+    if *first == b'+' {
+        let size = natural(digits)?;
+        return Some(Value::Int(signed(false, size)));
+    }
+    let size = natural(text)?;
+    Some(Value::Int(signed(false, size)))
+}
+
+/// The same of a text that may have zeros in front, or be too large.
+fn long_integer_of(text: &[u8]) -> Option<Value>
     ensures { MatchOption result
         ((v : Value) → IsValue text.now NameKind.Integer v → ⊥)
         (IsValue text.now NameKind.Integer) }

@@ -5,6 +5,7 @@ mod ends;
 mod fields;
 mod header;
 mod law;
+mod plain;
 mod read;
 mod records;
 mod rows;

@@ -66,8 +66,8 @@ fn read_rows(
     requires inputs { All (IsInput names.now) columns }
     requires few { length columns < 2 ^ 31 }
     requires short { length bytes.now ≤ 16777216 }
-    requires standing { (header : Record) × IsStanding bytes.now (header ∷ []) records.old.rdr }
-    ensures { (header : Record) → IsStanding bytes.now (header ∷ []) records.old.rdr
+    requires standing { (header : Record) × IsStanding bytes.now (header ∷ []) records.old }
+    ensures { (header : Record) → IsStanding bytes.now (header ∷ []) records.old
         → BodyAnswers form names.now columns (records_of bytes.now) header result }
 {
     let mut times = List::new(alloc);

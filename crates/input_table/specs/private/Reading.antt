@@ -14,8 +14,7 @@ use Rattle.input_table.specs.declared.ends.TableEnd.TheVariants.{Fault, NoMemory
 use Rattle.input_table.specs.declared.header.Form.{Form}
 use Rattle.input_table.specs.Fields.{Record}
 use Rattle.input_table.specs.Rows.{Row, IsInstant, IsInOrder, IsRow, BreaksIn, ValueIs, AreRows, last_row, times_of, cells_of}
-use Rattle.std.specs.Borrow.{Bor}
-use Rattle.csv.specs.declared.reader.Reader.{Reader}
+use Rattle.input_table.specs.declared.records.Records.{Records}
 use Rattle.input_table.specs.private.Standing.{IsStanding}
 use Rattle.input_table.specs.Tables.{BreaksAt}
 
@@ -74,11 +73,11 @@ BodyAnswers form names columns all header (Err (Fault code at)) = ⊥
 BodyAnswers form names columns all header (Err NoMemory) = Unit {0}
 
 -- the rows that were read up to the next number, and where the reader stands
-pub record IsReading (form : Form) (names : List FlatName) (columns : List ℕ) (text : List ℕ) (header : Record) (number : ℕ) (times : List Ratio) (cells : List Value) (rdr : Reader (Bor (List ℕ))) : Type 0 where
+pub record IsReading (form : Form) (names : List FlatName) (columns : List ℕ) (text : List ℕ) (header : Record) (number : ℕ) (times : List Ratio) (cells : List Value) (taking : Records) : Type 0 where
   pub records_ : List Record
   pub rows : List Row
   pub count : number ≡ length records_ + 1
-  pub standing : IsStanding text (header ∷ records_) rdr
+  pub standing : IsStanding text (header ∷ records_) taking
   pub are : AreRows form names columns None records_ rows
   pub hold : Hold (length columns) rows times cells
 

@@ -16,7 +16,7 @@ returns-in-Ok-false c header standing =
     let reading = inv.reading header standing in
     let all = rw c.in-Ok-false.field-0-test at (c.in-Ok-false.ensures.took text (header ∷ reading.records_) reading.standing) in
     subst (λ cs. BodyAnswers c.args.form c.args.names.now cs (records_of text) header c.whole.result) inv.same
-    (all_read c.args.form c.args.names.now c.loop-number.columns text header c.loop-number.number c.loop-number.times c.loop-number.cells c.loop-number.records.rdr c.whole.result reading all c.whole.ensures)
+    (all_read c.args.form c.args.names.now c.loop-number.columns text header c.loop-number.number c.loop-number.times c.loop-number.cells c.loop-number.records c.whole.result reading all c.whole.ensures)
 
 pub read_row-requires-clause-inputs : goal.read_row-requires-clause-inputs
 read_row-requires-clause-inputs c =
@@ -44,7 +44,7 @@ returns-in-Err-read_row c header standing =
     let here = subst (λ cs. RowAnswers c.args.form names cs reading.rows (fields_of c.next.new.self.row) number (Err end) c.read_row.new.times c.read_row.new.cells) slice there in
     subst (λ cs. BodyAnswers c.args.form names cs (records_of text) header (Err end)) inv.same
     (row_breaks c.args.form names columns text header (fields_of c.next.new.self.row) number c.loop-number.times c.read_row.new.times c.loop-number.cells c.read_row.new.cells
-    c.loop-number.records.rdr c.next.new.self.rdr end reading took.0 here)
+    c.loop-number.records c.next.new.self end reading took.0 here)
 
 pub loop-number-preserved : goal.loop-number-preserved
 loop-number-preserved c =
@@ -54,19 +54,19 @@ loop-number-preserved c =
     let columns = c.loop-number.columns in
     let number = c.loop-number.number in
     let slice = c.as_slice.ensures in
-    let more : (header : Record) → IsStanding text (header ∷ []) c.args.records.now.rdr
-    → IsReading c.args.form names columns text header (number + 1) c.read_row.new.times c.read_row.new.cells c.next.new.self.rdr = λ header standing.
+    let more : (header : Record) → IsStanding text (header ∷ []) c.args.records.now
+    → IsReading c.args.form names columns text header (number + 1) c.read_row.new.times c.read_row.new.cells c.next.new.self = λ header standing.
     let reading = inv.reading header standing in
     let took = rw c.in-Ok-true.field-0-test at (c.in-Ok-true.ensures.took text (header ∷ reading.records_) reading.standing) in
     let answers = c.in_default.ensures reading.rows (subst (λ (cs : List ℕ). Hold (length cs) reading.rows c.loop-number.times c.loop-number.cells) (sym slice) reading.hold) in
     let there = subst (λ (row : ByteRecord). RowAnswers c.args.form names c.as_slice.result.now reading.rows (fields_of row) number (Ok tt) c.read_row.new.times c.read_row.new.cells) c.row-row.ensures answers in
     let here = subst (λ cs. RowAnswers c.args.form names cs reading.rows (fields_of c.next.new.self.row) number (Ok tt) c.read_row.new.times c.read_row.new.cells) slice there in
     reads_more c.args.form names columns text header (fields_of c.next.new.self.row) number c.loop-number.times c.read_row.new.times c.loop-number.cells c.read_row.new.cells
-    c.loop-number.records.rdr c.next.new.self.rdr tt reading took.0 here
+    c.loop-number.records c.next.new.self tt reading took.0 here
     in
     record { same = inv.same; range = (more c.requires.standing.0 c.requires.standing.1).hold.range; reading = more }
 
 pub unreachable-requires : goal.unreachable-requires
 unreachable-requires c =
     let reading = c.loop-number.invariant.reading c.requires.standing.0 c.requires.standing.1 in
-    too_many c.args.form c.args.names.now c.loop-number.columns c.args.bytes.now c.requires.standing.0 c.loop-number.number c.loop-number.times c.loop-number.cells c.loop-number.records.rdr reading c.loop-number-test.false
+    too_many c.args.form c.args.names.now c.loop-number.columns c.args.bytes.now c.requires.standing.0 c.loop-number.number c.loop-number.times c.loop-number.cells c.loop-number.records reading c.loop-number-test.false

@@ -9,5 +9,5 @@ abbrev pub invariant-loop-number : goal.invariant-loop-number
 invariant-loop-number l = record {
   same : l.columns ≡ l.fn.columns;
   range : All IsTime l.times;
-  reading : (header : Record) → IsStanding l.bytes (header ∷ []) l.fn.records.rdr → IsReading l.form l.names l.columns l.bytes header l.number l.times l.cells l.records.rdr;
+  reading : (header : Record) → IsStanding l.bytes (header ∷ []) l.fn.records → IsReading l.form l.names l.columns l.bytes header l.number l.times l.cells l.records;
 }

@@ -18,7 +18,7 @@ returns-in_default-clause-answers c =
     let text = c.args.bytes.now in
     let took = rw c.in-Ok-true.field-0-test at (c.in-Ok-true.ensures.took text [] c.new-records.ensures) in
     let header = fields_of c.next.new.self.row in
-    let begin = they_begin text (header ∷ []) c.next.new.self.rdr took.0 in
+    let begin = they_begin text (header ∷ []) c.next.new.self took.0 in
     no_form c.args.flat.now.names (records_of text) header (fields_of c.row.result.now) begin.0 c.fault-in_default.result begin.1
     (ap (λ (r : ByteRecord). fields_of r) c.row.ensures) c.in_default.ensures c.fault-in_default.ensures
 
@@ -34,7 +34,7 @@ returns-in-Err-columns_of-clause-answers c =
     let text = c.args.bytes.now in
     let took = rw c.in-Ok-true.field-0-test at (c.in-Ok-true.ensures.took text [] c.new-records.ensures) in
     let header = fields_of c.next.new.self.row in
-    let begin = they_begin text (header ∷ []) c.next.new.self.rdr took.0 in
+    let begin = they_begin text (header ∷ []) c.next.new.self took.0 in
     columns_fault c.args.flat.now.names c.as_slice.result.now (records_of text) header (fields_of c.row.result.now) (fields_of c.row-2.result.now) begin.0 c.in-Some.form c.in-Err-columns_of.end
     begin.1 c.as_slice.ensures (ap (λ (r : ByteRecord). fields_of r) c.row.ensures) (ap (λ (r : ByteRecord). fields_of r) c.row-2.ensures) c.in-Some.ensures c.in-Err-columns_of.ensures
 
