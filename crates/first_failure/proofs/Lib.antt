@@ -7,6 +7,7 @@ pub mod Joining
 pub mod Looping
 pub mod Marking
 pub mod Readying
+pub mod Single
 pub mod Stepping
 pub mod Telling
 pub mod Turning

@@ -5,7 +5,7 @@ use Rattle.flat_model.specs.Assignment.{Assignment}
 use Rattle.flat_model.specs.Faults.{EquationFails}
 use Rattle.flat_model.specs.Given.{Row, with_row}
 use Rattle.flat_model.specs.Setting.{Setting}
-use Rattle.flat_model.specs.Uses.{Use}
+use Rattle.flat_model.specs.Uses.{Use, AreUses}
 use Rattle.moment_theory.specs.Free.{IsOrdered}
 use Rattle.moment_theory.specs.Sound.{IsSound, IsClear}
 use Rattle.moment_theory.specs.Taken.{AreTaken}
@@ -39,3 +39,8 @@ LeastLaw = (s : Setting) (uses before entries after : List Use) → IsOrdered s 
     → AreTaken s S m entries base last
     → ((i : ℕ) (kind : Fail) → FailsAtTurn s uses S m entries base last i kind ↔ FailsAmong s uses S m entries last i kind)
     × ((told : Option EquationFailing) → IsLeast (FailsAtTurn s uses S m entries base last) told → IsLeast (FailsAmong s uses S m entries last) told)
+
+-- what is told over a row is one
+abbrev pub OneToldLaw : Type 0
+OneToldLaw = (s : Setting) (uses : List Use) → AreUses s uses → (S : Assignment) (m : ℕ) (entries : List Use) (row : Row) (one two : Option EquationFailing)
+    → IsLeast (FailsAmong s uses S m entries row) one → IsLeast (FailsAmong s uses S m entries row) two → one ≡ two

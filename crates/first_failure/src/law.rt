@@ -2,7 +2,7 @@ ghost use Rattle.first_failure.specs.CarefulLaws.{CarefulLaw};
 ghost use Rattle.first_failure.specs.Lone.{LoneLaw};
 ghost use Rattle.first_failure.specs.MomentLaws.{AgainLaw, MomentLaw, SomeLaw};
 ghost use Rattle.first_failure.specs.Ready.{ReadyLaw};
-ghost use Rattle.first_failure.specs.Turns.{LeastLaw};
+ghost use Rattle.first_failure.specs.Turns.{LeastLaw, OneToldLaw};
 
 /// Over uses that were taken the least equation to fail at the turn of its use is the least to fail over the last row.
 pub fn least_law()
@@ -38,4 +38,9 @@ pub fn some_law()
 /// What is told of the uses of a base partition holds over the values of the moment.
 pub fn moment_law()
     ensures { MomentLaw }
+{}
+
+/// What is told of uses over a row is one.
+pub fn one_told_law()
+    ensures { OneToldLaw }
 {}

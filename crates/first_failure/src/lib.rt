@@ -10,5 +10,7 @@ mod law;
 mod least;
 
 pub use careful::{LoneLine, first_failure};
-pub use law::{again_law, careful_law, least_law, lone_law, moment_law, ready_law, some_law};
+pub use law::{
+    again_law, careful_law, least_law, lone_law, moment_law, one_told_law, ready_law, some_law,
+};
 pub use least::EquationFailing;
