@@ -1,0 +1,10 @@
+use Rattle.std.proofs.Common.{◌≡◌, ℕ, ◌<◌, min, length}
+use Rattle.instance_totals.specs.Weights.{number_at}
+use Rattle.class_sizes.specs.Equations.{own_equations}
+use Rattle.class_sizes.proofs.equations.equation_counts.Given as goal
+
+abbrev pub invariant-loop-class : goal.invariant-loop-class
+invariant-loop-class l = record {
+  size : length l.counts.items ≡ l.class;
+  each : (class : ℕ) → class < l.class → number_at l.counts.items class ≡ min (own_equations l.file.text.now l.file.classes.now class) l.most;
+}
