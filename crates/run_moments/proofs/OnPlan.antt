@@ -46,6 +46,10 @@ none_noted [] site = refl
 none_noted (b ∷ noted) zero = refl
 none_noted (b ∷ noted) (suc site) = none_noted noted site
 
+length_cleared : (noted : List Bool) → length (map (λ b. false) noted) ≡ length noted
+length_cleared [] = refl
+length_cleared (b ∷ noted) = ap suc (length_cleared noted)
+
 length_counted : (risings : List ℕ) (noted : List Bool) → length noted ≡ length risings → length (map (λ b. false) noted) ≡ length (counted risings noted)
 length_counted [] [] long = refl
 length_counted [] (b ∷ noted) long = absurd (omega (arith, long))
@@ -63,6 +67,7 @@ next_taken s S n old new moment is (rest, left, new_is) =
         given = sym found;
         ahead = sym (drop_next (moments_of s.instants) n moment rest (sym is.ahead ∙ left));
         sites = length_counted old.risings old.noted is.sites;
+        own = length_cleared old.noted ∙ is.own;
         risings = is.risings;
         fresh = none_noted old.noted;
       }),
@@ -97,6 +102,7 @@ plan_after s S n plan is = record {
   clocks = is.clocks;
   ahead = is.ahead;
   sites = is.sites;
+  own = is.own;
   risings = λ site. counted_at s S n site plan.risings plan.noted is.sites site (is.risings site) (is.noted site);
 }
 

@@ -18,6 +18,7 @@ pub record IsPlanBefore (s : Setting) (S : Assignment) (m : ℕ) (plan : Planned
   pub clocks : plan.clocks ≡ s.clocking.clocks
   pub ahead : plan.ahead ≡ drop m (moments_of s.instants)
   pub sites : length plan.noted ≡ length plan.risings
+  pub own : length plan.noted ≡ length s.clocking.sites
   pub risings : (site : ℕ) → unwrap_or (slice_get (counted plan.risings plan.noted) site) 0 ≡ risings_before s S site m
 
 -- a plan that gave moment n last, at which no site is noted yet
@@ -26,6 +27,7 @@ pub record IsPlanTaken (s : Setting) (S : Assignment) (n : ℕ) (plan : Planned)
   pub given : plan.given ≡ moment_at s.instants n
   pub ahead : plan.ahead ≡ drop (suc n) (moments_of s.instants)
   pub sites : length plan.noted ≡ length plan.risings
+  pub own : length plan.noted ≡ length s.clocking.sites
   pub risings : (site : ℕ) → risings_of plan site ≡ risings_before s S site n
   pub fresh : (site : ℕ) → is_noted plan site ≡ false
 
@@ -35,6 +37,7 @@ pub record IsPlanAt (s : Setting) (S : Assignment) (n : ℕ) (plan : Planned) : 
   pub given : plan.given ≡ moment_at s.instants n
   pub ahead : plan.ahead ≡ drop (suc n) (moments_of s.instants)
   pub sites : length plan.noted ≡ length plan.risings
+  pub own : length plan.noted ≡ length s.clocking.sites
   pub risings : (site : ℕ) → risings_of plan site ≡ risings_before s S site n
   pub noted : (site : ℕ) → is_noted plan site ≡ rises s S site n
 
