@@ -1,0 +1,5 @@
+pub mod Answering
+pub mod Lacks
+pub mod Levels
+pub mod NotedMore
+pub mod RisingLaw
