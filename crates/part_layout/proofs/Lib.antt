@@ -1,0 +1,4 @@
+pub mod Covering
+pub mod Laid
+pub mod Reading
+pub mod Tables
