@@ -1,0 +1,5 @@
+pub mod Cells
+pub mod Frames
+pub mod Starts
+pub mod Takes
+pub mod private
