@@ -1,0 +1,6 @@
+pub mod Answers
+pub mod Broken
+pub mod Flat
+pub mod Inputs
+pub mod Model
+pub mod Places

@@ -1,0 +1,4 @@
+pub mod Apart
+pub mod Givens
+pub mod Named
+pub mod Tabled
