@@ -10,14 +10,14 @@ returns-then-not-is_ascii_digit c =
 
 pub overflow_mul-value : goal.overflow_mul-value
 overflow_mul-value c =
-    let few : length c.args.digits.now ≤ 18 = search rules in
+    let few : c.loop-digit.digit-index ≤ 18 = search rules in
     let small = value_below c.args.digits.now c.loop-digit.digit-index (search rules) few c.loop-digit.invariant.digits in
     let value : c.loop-digit.value < 10 ^ 18 = rw c.loop-digit.invariant.value small in
     search rules
 
 pub overflow_add-value : goal.overflow_add-value
 overflow_add-value c =
-    let few : length c.args.digits.now ≤ 18 = search rules in
+    let few : c.loop-digit.digit-index ≤ 18 = search rules in
     let small = value_below c.args.digits.now c.loop-digit.digit-index (search rules) few c.loop-digit.invariant.digits in
     let value : c.loop-digit.value < 10 ^ 18 = rw c.loop-digit.invariant.value small in
     let digit : c.from.result < 10 = search rules in
