@@ -1,5 +1,5 @@
 -- A row that is read in one pass: its record, its cells and its instant.
-use Rattle.std.proofs.Common.{◌≡◌, ◌∙◌, ap, sym, subst, refl, ℕ, zero, suc, ◌+◌, ◌<◌, ◌≤◌, ◌⊎◌, inl, inr, false, List, [], ◌∷◌, ◌++◌, length, take, Option, Some, None, slice_get, slice_index_or, arith}
+use Rattle.std.proofs.Common.{◌≡◌, ◌∙◌, ap, sym, subst, refl, ℕ, zero, suc, ◌+◌, ◌<◌, ◌≤◌, ◌⊎◌, inl, inr, false, List, [], ◌∷◌, ◌++◌, length, take, Some, slice_get, slice_index_or, arith}
 use Rattle.std.specs.Borrow.{Bor}
 use Rattle.std.proofs.lemmas.List.{append_assoc, length-append}
 use Rattle.csv.specs.Machine.{Runs, next_record}
@@ -15,7 +15,7 @@ use Rattle.input_table.specs.Fields.{Record, IsValue, text_in, trimmed}
 use Rattle.input_table.specs.Rows.{ValueIs, written}
 use Rattle.input_table.specs.private.Plain.{IsBetween, IsRecordStart, has_quote}
 use Rattle.input_table.specs.private.Front.{IsPlain, AllPlain, InstantFront, ValueFront}
-use Rattle.input_table.specs.private.Reading.{Hold, above_in, last_time}
+use Rattle.input_table.specs.private.Reading.{above_in, last_time}
 use Rattle.input_table.specs.private.Quick.{in_columns, AreWritten, CellsFront, LineEnds, CellsTaken, RowTaken}
 use Rattle.input_table.proofs.Columns.{in_push}
 use Rattle.input_table.proofs.Cells.{row_read}

@@ -1,6 +1,6 @@
 -- What stands in front of a text without quotes, as a row is read in one pass: a number, a time, an instant, a value.
-use Rattle.std.specs.Prelude.{◌≡◌, ◌≢◌, ℕ, ◌*◌, ◌^◌, ◌<◌, List, [], ◌∷◌, ◌++◌, Some, length, ⊤}
-use Rattle.std.specs.Str.Parse.{AllDigits, digits_value}
+use Rattle.std.specs.Prelude.{◌≡◌, ◌≢◌, ℕ, ◌*◌, ◌^◌, ◌<◌, List, [], ◌∷◌, ◌++◌, Some, ⊤}
+use Rattle.std.specs.Str.Parse.{digits_value}
 use Rattle.rational_time.specs.declared.ratio.Ratio.{Ratio}
 use Rattle.rational_time.specs.TimeText.{IsNumeral, WritesTime}
 use Rattle.sync_values.specs.declared.value.Value.{Value}

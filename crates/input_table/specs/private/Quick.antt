@@ -1,5 +1,5 @@
 -- How a row of plain fields is read in one pass, without its record.
-use Rattle.std.specs.Prelude.{◌≡◌, ℕ, ◌⊎◌, List, [], ◌∷◌, ◌++◌, length, false, Option, Some, None, slice_get, slice_index_or, Result, Ok, Err}
+use Rattle.std.specs.Prelude.{◌≡◌, ℕ, ◌⊎◌, List, [], ◌∷◌, ◌++◌, length, false, Option, Some, None, slice_get, slice_index_or}
 use Rattle.std.specs.Borrow.{Bor}
 use Rattle.rational_time.specs.declared.ratio.Ratio.{Ratio}
 use Rattle.sync_values.specs.declared.value.Value.{Value}

@@ -1,4 +1,4 @@
-use Rattle.std.proofs.Common.{rules, arith, ◌<◌, ◌≤◌, ◌≡◌, ◌^◌, get_or, length}
+use Rattle.std.proofs.Common.{rules, arith, ◌<◌, ◌≤◌, ◌≡◌, ◌^◌, get_or}
 use Rattle.std.specs.Char.{digit_value}
 use Rattle.input_table.proofs.Numbers.{digit_more, digits_small}
 use Rattle.input_table.proofs.Fronts.{number_taken}

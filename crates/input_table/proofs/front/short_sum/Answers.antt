@@ -1,4 +1,4 @@
-use Rattle.std.proofs.Common.{◌≡◌, ◌+◌, ◌*◌, ◌<◌, ◌^◌, sym, subst, refl, rules, arith}
+use Rattle.std.proofs.Common.{◌+◌, ◌*◌, ◌<◌, ◌^◌, sym, subst, refl, rules, arith}
 use Rattle.input_table.proofs.Fronts.{product_small, sum_in_range}
 use Rattle.input_table.proofs.front.short_sum.Goals as goal
 

@@ -1,7 +1,7 @@
 use Rattle.std.proofs.Common.{◌∷◌, subst, Ok, Err}
 use Rattle.csv.specs.Records.{fields_of}
 use Rattle.csv.specs.declared.record.ByteRecord.{ByteRecord}
-use Rattle.input_table.specs.private.Reading.{RowAnswers, ReadsPlain}
+use Rattle.input_table.specs.private.Reading.{RowAnswers}
 use Rattle.input_table.proofs.Whole.{reads_more, reads_none, row_breaks}
 use Rattle.input_table.proofs.read.read_next.Goals as goal
 
