@@ -2,12 +2,14 @@ pub mod Cells
 pub mod Columns
 pub mod Counts
 pub mod Found
+pub mod Fronts
 pub mod Held
 pub mod NoTable
 pub mod Numbers
 pub mod Once
 pub mod OneRow
 pub mod PlainRecords
+pub mod OnePass
 pub mod Standing
 pub mod Sums
 pub mod Texts

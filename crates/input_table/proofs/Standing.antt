@@ -1,5 +1,5 @@
 -- A reader goes on from record to record.
-use Rattle.std.proofs.Common.{◌≡◌, ◌∙◌, List, ℕ, [], ◌+◌, ◌≤◌, length, Bool, true, false, Option, Some, None, inl, inr, IfSome, refl, ap, arith, sym, subst}
+use Rattle.std.proofs.Common.{◌≡◌, ◌∙◌, List, ℕ, [], ◌∷◌, ◌++◌, ◌+◌, ◌≤◌, length, Bool, true, false, Option, Some, None, inl, inr, IfSome, refl, ap, arith, sym, subst}
 use Rattle.std.specs.Borrow.{Bor}
 use Rattle.csv.specs.Machine.{Read, next_record}
 use Rattle.csv.specs.Reading.{default_config, strip_bom, Reached, Ready, ReadRecord, ReadsNext, NextIs}
@@ -77,23 +77,27 @@ pub left_of : (text : List ℕ) (rows : List Record) (old : Records) (rest : Bor
 left_of text rows old rest is some = subst (λ o. GoesOn is.state is.left o old.rdr) some is.goes
 
 -- after a record was taken of a text without quotes
-pub took_plain : (text : List ℕ) (rows : List Record) (old new : Records) (rest after : Bor (List ℕ)) → IsStanding text rows old → old.unquoted ≡ Some rest → new.unquoted ≡ Some after
-    → TakesRecord rest.now (fields_of new.row) (Some after) → Took text rows true new
-took_plain text rows old new rest after is some then_ (state, middle, next, none) =
+pub goes_behind : (text : List ℕ) (rows : List Record) (fields : Record) (old new : Records) (rest after : Bor (List ℕ)) → IsStanding text rows old → old.unquoted ≡ Some rest → new.unquoted ≡ Some after
+    → TakesRecord rest.now fields (Some after) → IsStanding text (rows ++ fields ∷ []) new × (length fields ≤ length text + 1)
+goes_behind text rows fields old new rest after is some then_ (state, middle, next, none) =
     let left = left_of text rows old rest is some in
-    let found : next_record default_config is.state [] [] is.left ≡ Some (fields_of new.row, state, after.now) =
-    between is.state is.left left.0 ∙ subst (λ xs. next_record default_config st.StartRecord [] [] xs ≡ Some (fields_of new.row, state, after.now)) left.1 next in
-    let few : length (fields_of new.row) ≤ length text + 1 =
-    omega (arith, next_few default_config rows is.state (strip_bom text) is.left (fields_of new.row, state, after.now) is.reached found, length-strip_bom text) in
+    let found : next_record default_config is.state [] [] is.left ≡ Some (fields, state, after.now) =
+    between is.state is.left left.0 ∙ subst (λ xs. next_record default_config st.StartRecord [] [] xs ≡ Some (fields, state, after.now)) left.1 next in
+    let few : length fields ≤ length text + 1 =
+    omega (arith, next_few default_config rows is.state (strip_bom text) is.left (fields, state, after.now) is.reached found, length-strip_bom text) in
     let goes : GoesOn state after.now (Some after) new.rdr = (middle, refl, none) in (
       record {
         state = state;
         left = after.now;
-        reached = reached-more default_config st.StartRecord is.state (strip_bom text) is.left rows (fields_of new.row, state, after.now) is.reached found;
+        reached = reached-more default_config st.StartRecord is.state (strip_bom text) is.left rows (fields, state, after.now) is.reached found;
         goes = subst (λ o. GoesOn state after.now o new.rdr) (sym then_) goes;
       },
       few,
     )
+
+pub took_plain : (text : List ℕ) (rows : List Record) (old new : Records) (rest after : Bor (List ℕ)) → IsStanding text rows old → old.unquoted ≡ Some rest → new.unquoted ≡ Some after
+    → TakesRecord rest.now (fields_of new.row) (Some after) → Took text rows true new
+took_plain text rows old new rest after is some then_ takes = goes_behind text rows (fields_of new.row) old new rest after is some then_ takes
 
 -- where there was none
 pub took_last : (text : List ℕ) (rows : List Record) (old new : Records) (rest : Bor (List ℕ)) (fields : Record) → IsStanding text rows old → old.unquoted ≡ Some rest

@@ -1,5 +1,6 @@
 -- The whole table: its answers, and that it is one of the model.
-use Rattle.std.proofs.Common.{◌≡◌, ◌∙◌, ap, sym, subst, refl, ℕ, zero, suc, ◌+◌, ◌*◌, ◌<◌, ◌≤◌, ◌^◌, inl, inr, List, [], ◌∷◌, ◌++◌, length, Option, Some, None, Result, Ok, Err, IfOk, slice_get, pos, neg_ℤ, arith}
+use Rattle.std.proofs.Common.{◌≡◌, ◌∙◌, ap, sym, subst, refl, ℕ, zero, suc, ◌+◌, ◌*◌, ◌<◌, ◌≤◌, ◌^◌, inl, inr, true, false, List, [], ◌∷◌, ◌++◌, length, Option, Some, None, Result, Ok, Err, IfOk, slice_get, pos, neg_ℤ, arith}
+use Rattle.std.specs.Borrow.{Bor}
 use Rattle.std.proofs.lemmas.Option.{slice_get_within}
 use Rattle.std.proofs.lemmas.List.{length-append}
 use Rattle.std.proofs.lemmas.Bool.Decides.{nat_tests}
@@ -25,8 +26,10 @@ use Rattle.input_table.specs.Rows.{Row, IsCell, written, kept, IsRow, AreRows, l
 use Rattle.input_table.specs.Tables.{records_of, Answers, Breaks, no_header, no_time, no_input, missing, in_row, no_row}
 use Rattle.input_table.specs.private.Finding.{ColumnsAre, AreWhole}
 use Rattle.input_table.specs.private.Standing.{IsStanding}
-use Rattle.input_table.specs.private.Reading.{Hold, RowAnswers, BodyAnswers, WholeAnswers, IsReading}
-use Rattle.input_table.proofs.Standing.{they_begin, they_are_few}
+use Rattle.input_table.specs.private.Reading.{Hold, RowAnswers, BodyAnswers, WholeAnswers, IsReading, ReadsPlain}
+use Rattle.input_table.specs.private.Plain.{has_quote}
+use Rattle.input_table.specs.private.Quick.{RowTaken}
+use Rattle.input_table.proofs.Standing.{they_begin, they_are_few, left_of, goes_behind}
 use Rattle.input_table.proofs.Held.{get_behind, get_before}
 
 -- the header
@@ -76,6 +79,24 @@ reads_more form names columns text header record_ number times times_ cells cell
   are = rows_more form names columns None reading.records_ reading.rows record_ row reading.are is;
   hold = hold;
 }
+
+-- a row was read in one pass
+pub reads_plain : (form : Form) (names : List FlatName) (columns : List ℕ) (times times_ : List Ratio) (cells cells_ : List Value) (old new : Records) (rest after : Bor (List ℕ))
+    → old.unquoted ≡ Some rest → new.unquoted ≡ Some after → RowTaken form names columns rest.now times cells (Some after) times_ cells_
+    → ReadsPlain form names columns times cells old true times_ cells_ new
+reads_plain form names columns times times_ cells cells_ old new rest after is then_ taken = λ text header number reading.
+    let left = left_of text (header ∷ reading.records_) old rest reading.standing is in
+    let none : has_quote rest.now ≡ false = subst (λ t. has_quote t ≡ false) (sym left.1) left.2 in
+    let row = taken none in
+    let behind = goes_behind text (header ∷ reading.records_) row.0 old new rest after reading.standing is then_ row.1 in
+    reads_more form names columns text header row.0 number times times_ cells cells_ old new tt reading behind.0 (row.2 reading.rows reading.hold)
+
+-- nothing was read
+pub reads_none : (form : Form) (names : List FlatName) (columns : List ℕ) (text : List ℕ) (header : Record) (number : ℕ) (times times_ : List Ratio) (cells cells_ : List Value) (old new : Records)
+    → ReadsPlain form names columns times cells old false times_ cells_ new → IsReading form names columns text header number times cells old → IsReading form names columns text header number times_ cells_ new
+reads_none form names columns text header number times times_ cells cells_ old new same reading =
+    subst (λ ts. IsReading form names columns text header number ts cells_ new) (sym same.0)
+    (subst (λ vs. IsReading form names columns text header number times vs new) (sym same.1) (subst (λ rs. IsReading form names columns text header number times cells rs) (sym same.2) reading))
 
 -- a record breaks a rule
 pub row_breaks : (form : Form) (names : List FlatName) (columns : List ℕ) (text : List ℕ) (header record_ : Record) (number : ℕ) (times times_ : List Ratio) (cells cells_ : List Value)

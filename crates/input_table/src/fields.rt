@@ -96,7 +96,7 @@ fn later_by(before: Option<Ratio>, more: Ratio) -> Option<Ratio>
 }
 
 /// What stands behind the `+` of a sum.
-fn addend(form: Form, text: &[u8]) -> Option<&[u8]>
+pub(crate) fn addend(form: Form, text: &[u8]) -> Option<&[u8]>
     ensures { MatchOption result
         ((rest : List ℕ) → form ≡ Form.Short → text.now ≡ codes "+" ++ rest → ⊥)
         (λ rest. (form ≡ Form.Short) × (text.now ≡ codes "+" ++ rest.now)) }
@@ -148,7 +148,7 @@ fn natural(digits: &[u8]) -> Option<u64>
 }
 
 /// A number with its sign.
-fn signed(negative: bool, size: u64) -> i64
+pub(crate) fn signed(negative: bool, size: u64) -> i64
     requires { size < 2 ^ 63 }
     ensures { result ≡ (if negative then neg_ℤ (pos size) else pos size) }
 {

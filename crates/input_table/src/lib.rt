@@ -3,9 +3,11 @@
 
 mod ends;
 mod fields;
+mod front;
 mod header;
 mod law;
 mod plain;
+mod quick;
 mod read;
 mod records;
 mod rows;

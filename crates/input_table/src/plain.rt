@@ -53,14 +53,14 @@ fn field_len(text: &[u8]) -> usize
 }
 
 /// Whether a byte ends a line.
-fn is_line_end(byte: u8) -> bool
+pub(crate) fn is_line_end(byte: u8) -> bool
     ensures { MatchBool result ((byte ≡ 13) ⊎ (byte ≡ 10)) ((byte ≢ 13) × (byte ≢ 10)) }
 {
     byte == b'\n' || byte == b'\r'
 }
 
 /// A text without the ends of lines at its front.
-fn without_line_ends(text: &[u8]) -> &[u8]
+pub(crate) fn without_line_ends(text: &[u8]) -> &[u8]
     ensures same { next_record default_config st.StartRecord [] [] result.now ≡ next_record default_config st.StartRecord [] [] text.now }
     ensures start { IsRecordStart result.now }
     ensures quotes { has_quote text.now ≡ false → has_quote result.now ≡ false }

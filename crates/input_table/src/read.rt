@@ -1,13 +1,14 @@
-ghost use Rattle.std.specs.Prelude.{◌≤◌, ◌<◌, ◌^◌, ◌∷◌, ℕ, List, [], length, All, IfOk};
+ghost use Rattle.std.specs.Prelude.{◌≡◌, ◌≤◌, ◌<◌, ◌^◌, ◌∷◌, ℕ, List, [], length, All, IfOk, IfErr};
 ghost use Rattle.flat_model.specs.Models.{IsModel};
-ghost use Rattle.flat_model.specs.Tables.{IsInput, IsTableOf};
+ghost use Rattle.flat_model.specs.Tables.{IsInput, IsTime, IsTableOf};
 ghost use Rattle.input_table.specs.Fields.{Record};
 ghost use Rattle.input_table.specs.Tables.{Answers, AnswersNone, records_of};
 ghost use Rattle.input_table.specs.private.Standing.{IsStanding};
-ghost use Rattle.input_table.specs.private.Reading.{BodyAnswers, WholeAnswers};
+ghost use Rattle.input_table.specs.private.Reading.{BodyAnswers, WholeAnswers, IsReading, NextAnswers, ReadsPlain};
 
 use crate::ends::{TableCode, TableEnd};
 use crate::header::{Form, columns_of, form_of, missing};
+use crate::quick::take_row;
 use crate::records::Records;
 use crate::rows::{fault, read_row};
 use flat_model::{FlatModel, FlatName, Table};
@@ -74,25 +75,77 @@ fn read_rows(
     let mut cells = List::new(alloc);
     // There are no more records than bytes and one, the header among them.
     for number in 1..bytes.len() as u32 + 2 {
-        match records.next() {
-            Err(end) => return Err(end),
-            Ok(false) => return whole(times, columns, cells),
-            Ok(true) => {}
-        }
-        let row = records.row();
-        if let Err(end) = read_row(
+        match read_next(
             form,
             names,
             columns.as_slice(),
-            row,
+            records,
             number,
             &mut times,
             &mut cells,
         ) {
-            return Err(end);
+            Err(end) => return Err(end),
+            Ok(false) => return whole(times, columns, cells),
+            Ok(true) => {}
         }
     }
     unreachable!()
+}
+
+/// Reads the next row behind those that were read, and tells whether there is one.
+fn read_next(
+    form: Form,
+    names: &[FlatName],
+    columns: &[u32],
+    records: &mut Records<'_>,
+    number: u32,
+    times: &mut List<Ratio>,
+    cells: &mut List<Value>,
+) -> Result<bool, TableEnd>
+    requires inputs { All (IsInput names.now) columns.now }
+    requires few { length columns.now < 2 ^ 31 }
+    requires range { All IsTime times.old }
+    ensures { (text : List ℕ) (header : Record) → IsReading form names.now columns.now text header number times.old cells.old records.old
+        → NextAnswers form names.now columns.now text header number result times.new cells.new records.new }
+{
+    if read_plain(form, names, columns, records, times, cells)? {
+        return Ok(true);
+    }
+    match records.next() {
+        Err(end) => return Err(end),
+        Ok(false) => return Ok(false),
+        Ok(true) => {}
+    }
+    match read_row(form, names, columns, records.row(), number, times, cells) {
+        Err(end) => Err(end),
+        Ok(()) => Ok(true),
+    }
+}
+
+/// Reads the next row in one pass, if it is written in the plainest way, and tells whether it did.
+fn read_plain(
+    form: Form,
+    names: &[FlatName],
+    columns: &[u32],
+    records: &mut Records<'_>,
+    times: &mut List<Ratio>,
+    cells: &mut List<Value>,
+) -> Result<bool, TableEnd>
+    requires inputs { All (IsInput names.now) columns.now }
+    requires range { All IsTime times.old }
+    ensures read { IfOk result (λ is. ReadsPlain form names.now columns.now times.old cells.old records.old is times.new cells.new records.new) }
+    ensures memory { IfErr result (λ end. end ≡ TableEnd.NoMemory) }
+{
+    let Some(text) = records.unquoted else {
+        return Ok(false);
+    };
+    match take_row(form, names, columns, text, times, cells)? {
+        None => Ok(false),
+        Some(rest) => {
+            records.unquoted = Some(rest);
+            Ok(true)
+        }
+    }
 }
 
 /// The table of these lists.

@@ -48,7 +48,7 @@ fn value_above(cells: &List<Value>, width: usize) -> Option<Value>
 }
 
 /// The instant of the row that was read last.
-fn last_of(times: &List<Ratio>) -> Option<Ratio>
+pub(crate) fn last_of(times: &List<Ratio>) -> Option<Ratio>
     ensures is { result ≡ last_time times.now }
     ensures range { All IsTime times.now → IfSome result IsTime }
 {

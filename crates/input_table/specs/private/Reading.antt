@@ -1,5 +1,5 @@
 -- How rows are read one after the other into two lists: the times, and the cells row by row.
-use Rattle.std.specs.Prelude.{◌≡◌, ◌≢◌, ℕ, ◌+◌, ◌-◌, ◌<◌, ◌⊎◌, List, [], ◌∷◌, ◌++◌, length, Option, Some, None, slice_get, nat_lt, if◌then◌else◌, Result, Ok, Err, All}
+use Rattle.std.specs.Prelude.{◌≡◌, ◌≢◌, ℕ, ◌+◌, ◌-◌, ◌<◌, ◌⊎◌, List, [], ◌∷◌, ◌++◌, length, Option, Some, None, slice_get, nat_lt, if◌then◌else◌, Result, Ok, Err, All, Bool, true, false}
 use Rattle.rational_time.specs.declared.ratio.Ratio.{Ratio}
 use Rattle.rational_time.specs.Fraction.{Below}
 use Rattle.sync_values.specs.declared.value.Value.{Value}
@@ -16,7 +16,7 @@ use Rattle.input_table.specs.Fields.{Record}
 use Rattle.input_table.specs.Rows.{Row, IsInstant, IsInOrder, IsRow, BreaksIn, ValueIs, AreRows, last_row, times_of, cells_of}
 use Rattle.input_table.specs.declared.records.Records.{Records}
 use Rattle.input_table.specs.private.Standing.{IsStanding}
-use Rattle.input_table.specs.Tables.{BreaksAt}
+use Rattle.input_table.specs.Tables.{BreaksAt, records_of}
 
 -- the lists hold these rows
 pub record Hold (width : ℕ) (rows : List Row) (times : List Ratio) (cells : List Value) : Type 0 where
@@ -80,6 +80,19 @@ pub record IsReading (form : Form) (names : List FlatName) (columns : List ℕ) 
   pub standing : IsStanding text (header ∷ records_) taking
   pub are : AreRows form names columns None records_ rows
   pub hold : Hold (length columns) rows times cells
+
+-- after the next row: one row more, none left, or the first rule that its record breaks
+abbrev pub NextAnswers : Form → List FlatName → List ℕ → List ℕ → Record → ℕ → Result Bool TableEnd → List Ratio → List Value → Records → Type 0
+NextAnswers form names columns text header number (Ok true) times cells taking = IsReading form names columns text header (number + 1) times cells taking
+NextAnswers form names columns text header number (Ok false) times cells taking = (at : Records) × (reading : IsReading form names columns text header number times cells at)
+    × (records_of text ≡ header ∷ reading.records_)
+NextAnswers form names columns text header number (Err end) times cells taking = BodyAnswers form names columns (records_of text) header (Err end)
+
+-- after a row that is written in the plainest way: one row more; else all is as before
+abbrev pub ReadsPlain : Form → List FlatName → List ℕ → List Ratio → List Value → Records → Bool → List Ratio → List Value → Records → Type 0
+ReadsPlain form names columns times cells taking true new_times new_cells new = (text : List ℕ) (header : Record) (number : ℕ)
+    → IsReading form names columns text header number times cells taking → IsReading form names columns text header (number + 1) new_times new_cells new
+ReadsPlain form names columns times cells taking false new_times new_cells new = (new_times ≡ times) × (new_cells ≡ cells) × (new ≡ taking)
 
 -- the table of these lists, or I5 where there is no row
 abbrev pub WholeAnswers : List Ratio → List ℕ → List Value → Result Table TableEnd → Type 0
