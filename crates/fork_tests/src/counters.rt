@@ -1,4 +1,4 @@
-ghost use Rattle.std.specs.Prelude.{◌≡◌, ◌≤◌, ◌<◌, ◌+◌, All, length, vec_len};
+ghost use Rattle.std.specs.Prelude.{◌≤◌};
 
 use fork_steps::{Slot, Step, step_slots};
 use outside_io::Gate;
