@@ -1,5 +1,5 @@
 -- A model has one clocking.
-use Rattle.std.proofs.Common.{◌≡◌, refl, sym, ◌∙◌, ℕ, List, Option, Some, None, Result, Ok, Err}
+use Rattle.std.proofs.Common.{refl, sym, ◌∙◌, List, Result, Ok, Err}
 use Rattle.flat_model.specs.declared.clock.Clocking.{Clocking}
 use Rattle.flat_model.specs.declared.model.FlatModel.{FlatModel}
 use Rattle.flat_model.specs.Models.{IsModel}
@@ -13,21 +13,20 @@ use Rattle.base_partition.proofs.Once.{answer_once}
 use Rattle.sub_clock_solve.specs.declared.kinds.SolveEnd.{SolveEnd}
 use Rattle.sub_clock_solve.specs.declared.kinds.SolveEnd.TheVariants as solve
 use Rattle.sub_clock_solve.specs.Laws.{IsNoMemory}
-use Rattle.sub_clock_solve.specs.Solving.{Solves, IsSolution}
+use Rattle.sub_clock_solve.specs.Solving.{IsSolution}
 use Rattle.sub_clock_solve.specs.Standing.{FitTogether}
 use Rattle.sub_clock_solve.proofs.Once as solving
 use Rattle.clock_check.specs.declared.kinds.CheckEnd.{CheckEnd}
 use Rattle.clock_check.specs.declared.kinds.CheckEnd.TheVariants as check
-use Rattle.clock_check.specs.Checking.{Checks}
 use Rattle.clock_ready.specs.Laws as ready
 use Rattle.clock_ready.proofs.Checked.{check_once}
 use Rattle.clock_ready.proofs.Fitting.{fits}
 use Rattle.clock_sides.specs.Laws.{IsAnswered}
 use Rattle.command_answer.specs.Actions.{clocking_of}
 use Rattle.command_answer.specs.Layers.{termed, classed, solved, checked}
-use Rattle.command_answer.specs.Stages.{Answer, Stage, ◌>>=◌, always, layer}
+use Rattle.command_answer.specs.Stages.{◌>>=◌, always, layer}
 use Rattle.command_answer.specs.Told.{told_classes, told_clocks, told_checks}
-use Rattle.command_answer.proofs.Joined.{IsOne, IsOnce, IsTold, Below, layer_one, both_one, any_one, below_after, below_both, below_layer, none_told, not_memory}
+use Rattle.command_answer.proofs.Joined.{IsOne, IsTold, Below, layer_one, both_one, any_one, below_after, below_both, below_layer, none_told, not_memory}
 use Rattle.command_answer.proofs.SameTerms.{solves_same, checks_same}
 
 classed_one : (flat : FlatModel) → IsOne (classed flat)
@@ -83,8 +82,8 @@ unfolding clocking_of termed
 clocking_one flat is = any_one _ _
     (λ s t a b. below_after _ _ _ (λ classes. below_both _ _ _ _ (below_solved flat s t a b classes) (λ grids. below_checked flat s t a b classes grids)))
     (λ terms a. both_one _ _ (classed_one flat) (λ classes k.
-      let fit = (fits flat terms classes is a (classes_are flat classes k).are).0 in
-      both_one _ _ (solved_one terms classes fit) (λ grids l. checked_one flat terms classes grids fit (grids_are terms classes grids l))))
+    let fit = (fits flat terms classes is a (classes_are flat classes k).are).0 in
+    both_one _ _ (solved_one terms classes fit) (λ grids l. checked_one flat terms classes grids fit (grids_are terms classes grids l))))
 
 -- a clocking that is made is answered for the model
 pub is_answered : (flat : FlatModel) (clocking : Clocking) → (clocking_of flat).makes clocking → IsAnswered flat clocking

@@ -1,3 +1,4 @@
+pub mod Calling
 pub mod Clocks
 pub mod Joined
 pub mod Models

@@ -1,7 +1,6 @@
 -- A tree has one flat model, and one with its types.
-use Rattle.std.proofs.Common.{◌≡◌, refl, ap, ap₂, sym, subst, ◌∙◌, ℕ, ◌<◌, inl, inr, true, List, [], ◌∷◌, Option, Some, slice_get, Result, Ok, Err, arith}
+use Rattle.std.proofs.Common.{refl, ℕ, List, Option}
 use Rattle.mo_parser.specs.declared.tree.Tree.{Tree}
-use Rattle.flat_model.specs.declared.model.FlatModel.{FlatModel}
 use Rattle.flat_model.specs.declared.raw.RawModel.{RawModel}
 use Rattle.flat_answer.specs.declared.end.FlattenEnd.TheVariants as flatten
 use Rattle.flat_answer.proofs.OneAnswer as flattening
@@ -10,7 +9,7 @@ use Rattle.flat_types.proofs.OneAnswer as types
 use Rattle.class_scopes.specs.Reached.{chosen_by}
 use Rattle.command_answer.specs.Layers.{flattened, typed}
 use Rattle.command_answer.specs.Told.{told_names, told_types}
-use Rattle.command_answer.proofs.Joined.{IsOne, IsOnce, IsTold, layer_one, none_told, not_memory}
+use Rattle.command_answer.proofs.Joined.{IsOne, layer_one, not_memory}
 
 pub flattened_one : (text : List ℕ) (tree : Tree) (class : Option (List ℕ)) → IsOne (flattened text tree class)
 unfolding flattened

@@ -1,5 +1,5 @@
 -- Words have one answer, since each stage of the command has.
-use Rattle.std.proofs.Common.{◌≡◌, refl, sym, ◌∙◌, ℕ, List, Option, Some, None, Ok}
+use Rattle.std.proofs.Common.{◌≡◌, sym, ◌∙◌, ℕ, List, Option, Some, None, Ok}
 use Rattle.outside_io.specs.Files.{Told, File}
 use Rattle.command_words.specs.Choice.{Choice}
 use Rattle.command_words.specs.declared.command.Mode.{Mode}
@@ -15,7 +15,7 @@ use Rattle.trace_print.specs.Modes.{flat_text, clocks_text}
 use Rattle.typed_model.proofs.Models.{typed_is_model}
 use Rattle.command_answer.specs.Actions.{model_limit, table_limit, model_of, table_of, in_mode, actions, told_files, OneAnswerLaw}
 use Rattle.command_answer.specs.Layers.{flattened, typed, tabled, untabled, ordered, Orders}
-use Rattle.command_answer.specs.Stages.{Answer, Stage, ◌>>=◌, ◌>>◌, layer, printed}
+use Rattle.command_answer.specs.Stages.{Stage, ◌>>=◌, layer, printed}
 use Rattle.command_answer.proofs.Clocks.{clocking_one, is_answered}
 use Rattle.command_answer.proofs.Joined.{IsOnly, IsOne, both_one, end_one, always_one}
 use Rattle.command_answer.proofs.Models.{flattened_one, typed_one}

@@ -1,5 +1,5 @@
 -- A model and its clocking have one order, and one count of rows and ticks with one list of instants.
-use Rattle.std.proofs.Common.{◌≡◌, refl, ap, sym, ◌∙◌, ℕ, List, [], Option, Result, Ok, Err, arith}
+use Rattle.std.proofs.Common.{refl, ap, [], Ok, Err}
 use Rattle.rational_time.specs.declared.ratio.Ratio.{Ratio}
 use Rattle.flat_model.specs.declared.clock.Clocking.{Clocking}
 use Rattle.flat_model.specs.declared.model.FlatModel.{FlatModel}
@@ -13,7 +13,7 @@ use Rattle.tick_plan.specs.NewPlan.{IsCounted}
 use Rattle.tick_plan.proofs.OneAnswer.{planned_once, few_or_many}
 use Rattle.command_answer.specs.Layers.{ordered, counted, timed}
 use Rattle.command_answer.specs.Told.{told_order, told_plan}
-use Rattle.command_answer.proofs.Joined.{IsOne, IsOnce, IsTold, layer_one, always_one, none_told, not_memory}
+use Rattle.command_answer.proofs.Joined.{IsOne, IsOnce, layer_one, always_one, none_told, not_memory}
 
 -- a setting of a model and its clocking
 abbrev bare : FlatModel → Clocking → Setting

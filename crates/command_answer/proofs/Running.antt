@@ -1,5 +1,5 @@
 -- A run has one answer.
-use Rattle.std.proofs.Common.{◌≡◌, refl, ap, ap₂, sym, ◌∙◌, ℕ, zero, suc, ◌+◌, ◌<◌, inl, inr, List, [], ◌∷◌, map, Option, Some, slice_get, Ok, length, arith}
+use Rattle.std.proofs.Common.{◌≡◌, refl, ap, ap₂, sym, ◌∙◌, ℕ, zero, suc, ◌+◌, ◌<◌, inl, inr, List, [], ◌∷◌, map, Some, slice_get, Ok, length, arith}
 use Rattle.rational_time.specs.declared.ratio.Ratio.{Ratio}
 use Rattle.flat_model.specs.declared.clock.Clocking.{Clocking}
 use Rattle.flat_model.specs.declared.model.FlatModel.{FlatModel}
@@ -53,13 +53,15 @@ module _ (flat : FlatModel) (clocking : Clocking) (table : Table) (instants : Li
       let is_order = answered_order s order (orders s refl refl) in
       let pure = unheld_pure s uses group runs is_order.uses_are rests in
       let count = bound clocking.partitions in
-      let below : ArePartitionsBelow s count = λ class k at. below_bound clocking.partitions class k at in
-      (moment_order s (λ entry. group entry.name) count uses, record {
-        runs = runs;
-        uses_are = is_order;
-        same = order_same s runs uses is_order.uses_are (λ entry. group entry.name) pure count below;
-        free = order_free s runs uses is_order.uses_are (λ entry. group entry.name) pure count;
-      })
+      let below : ArePartitionsBelow s count = λ class k at. below_bound clocking.partitions class k at in (
+        moment_order s (λ entry. group entry.name) count uses,
+        record {
+          runs = runs;
+          uses_are = is_order;
+          same = order_same s runs uses is_order.uses_are (λ entry. group entry.name) pure count below;
+          free = order_free s runs uses is_order.uses_are (λ entry. group entry.name) pure count;
+        },
+      )
 
 same_answer : (a b : Answer) → a.status ≡ b.status → a.out ≡ b.out → a.err ≡ b.err → a ≡ b
 same_answer a b status out err =

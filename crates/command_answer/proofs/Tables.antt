@@ -1,5 +1,5 @@
 -- The inputs of a model have one table, with a file and without one, and it is a table of the model.
-use Rattle.std.proofs.Common.{◌≡◌, refl, ap, ap₂, sym, subst, ◌∙◌, ℕ, zero, suc, ◌<◌, inl, inr, true, List, [], ◌∷◌, length, get_or, All, Option, Some, None, slice_get, Result, Ok, Err, arith}
+use Rattle.std.proofs.Common.{◌≡◌, refl, ap, ap₂, sym, subst, ◌∙◌, ℕ, zero, suc, ◌<◌, inl, inr, true, List, [], ◌∷◌, length, All, Option, Some, None, slice_get, Ok, Err, arith}
 use Rattle.rational_time.specs.declared.ratio.Ratio.{Ratio}
 use Rattle.rational_time.specs.Fraction.{IsLowest}
 use Rattle.rational_time.proofs.Fractions.{IsLowest-unique, IsLowest-ratio}
@@ -13,7 +13,6 @@ use Rattle.flat_model.specs.Tables.{IsTime, IsInput, IsTableOf}
 use Rattle.flat_model.proofs.InstantsLeft.{one_ratio}
 use Rattle.input_table.specs.declared.ends.TableCode.{TableCode}
 use Rattle.input_table.specs.declared.ends.TableCode.TheVariants.{I2}
-use Rattle.input_table.specs.declared.ends.TableEnd.{TableEnd}
 use Rattle.input_table.specs.declared.ends.TableEnd.TheVariants as table
 use Rattle.input_table.specs.Fields.{Record}
 use Rattle.input_table.specs.Rows.{Row, IsInstant, written, added, AreRows, times_of}
@@ -23,12 +22,12 @@ use Rattle.input_table.proofs.Once.{table_law}
 use Rattle.input_table.proofs.Whole.{body_table}
 use Rattle.command_answer.specs.Layers.{tabled, untabled}
 use Rattle.command_answer.specs.Told.{told_table}
-use Rattle.command_answer.proofs.Joined.{IsOne, IsOnce, IsTold, layer_one, none_told, not_memory}
+use Rattle.command_answer.proofs.Joined.{IsOne, IsOnce, layer_one, none_told, not_memory}
 
 pub tabled_one : (flat : FlatModel) (bytes : List ℕ) → AreNames flat.names → IsOne (tabled flat bytes)
 unfolding tabled
 tabled_one flat bytes names = layer_one _ _ (λ r s p q t u. elim (table_law flat.names (records_of bytes) r s names p q) [
-    inl same ↦ same
+  | inl same ↦ same
   | inr (inl none) ↦ absurd (not_memory told_table table.NoMemory refl r t none)
   | inr (inr none) ↦ absurd (not_memory told_table table.NoMemory refl s u none)
 ])
@@ -54,12 +53,20 @@ module _ (form : _) (names : List FlatName) (columns : List ℕ) where
 -- the table of a file is one of the model
 pub file_table : (flat : FlatModel) (all : List Record) (rows : Table) → Answers flat.names all (Ok rows) → IsTableOf flat rows
 file_table flat all rows (header, records_, all_is, is) =
-    body_table is.form flat rows.columns all header rows is.header_is.are (records_, is.rows, all_is, is.some, is.are, refl, record {
-      times_are = is.times;
-      cells_are = is.cells;
-      wide = all_wide is.form flat.names rows.columns None records_ is.rows is.are;
-      range = subst (λ (ts : List Ratio). All IsTime ts) (sym is.times) (in_range is.form flat.names rows.columns None records_ is.rows is.are);
-    })
+    body_table is.form flat rows.columns all header rows is.header_is.are (
+      records_,
+      is.rows,
+      all_is,
+      is.some,
+      is.are,
+      refl,
+      record {
+        times_are = is.times;
+        cells_are = is.cells;
+        wide = all_wide is.form flat.names rows.columns None records_ is.rows is.are;
+        range = subst (λ (ts : List Ratio). All IsTime ts) (sym is.times) (in_range is.form flat.names rows.columns None records_ is.rows is.are);
+      },
+    )
 
 -- and so is the one row
 pub no_file_table : (flat : FlatModel) (rows : Table) → AnswersNone flat.names (Ok rows) → IsTableOf flat rows

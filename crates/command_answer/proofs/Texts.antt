@@ -1,13 +1,10 @@
 -- Words, a text and its tokens have one answer.
-use Rattle.std.proofs.Common.{◌≡◌, refl, ap, ap₂, sym, ◌∙◌, ℕ, List, Option, Result, Ok, Err, arith}
+use Rattle.std.proofs.Common.{refl, ap, ap₂, sym, ◌∙◌, ℕ, List, Ok, Err, arith}
 use Rattle.command_words.proofs.OneChoice as words
 use Rattle.mo_lexer.specs.declared.token.Token.{Token}
-use Rattle.mo_lexer.specs.declared.fault.LexEnd.{LexEnd}
 use Rattle.mo_lexer.specs.declared.fault.LexEnd.TheVariants as lex
 use Rattle.mo_lexer.specs.Tokens.{Lexes}
 use Rattle.mo_lexer.proofs.Laws as lexer
-use Rattle.mo_parser.specs.declared.tree.Tree.{Tree}
-use Rattle.mo_parser.specs.declared.syntax.ParseEnd.{ParseEnd}
 use Rattle.mo_parser.specs.declared.syntax.ParseEnd.TheVariants as syntax
 use Rattle.mo_parser.specs.grammar.Faults.{Answers}
 use Rattle.mo_parser.specs.grammar.Places.{head}
@@ -16,7 +13,7 @@ use Rattle.mo_parser.proofs.OneFault.{fault_law}
 use Rattle.flat_model.specs.declared.place.Place.{Place}
 use Rattle.command_answer.specs.Layers.{asked, few, lexed, parsed}
 use Rattle.command_answer.specs.Told.{told_lexical, told_syntax}
-use Rattle.command_answer.proofs.Joined.{IsOne, IsOnce, IsTold, layer_one, none_told}
+use Rattle.command_answer.proofs.Joined.{IsOne, IsOnce, layer_one, none_told}
 
 pub asked_one : (ws : List (List ℕ)) → IsOne (asked ws)
 unfolding asked

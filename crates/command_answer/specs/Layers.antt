@@ -51,7 +51,7 @@ lexed text = layer (Lexes text) (told_lexical text)
 unfoldable pub parsed : List ℕ → List Token → Stage Tree
 parsed text tokens = layer (grammar.Answers text 64 tokens) (told_syntax text)
 
--- the flat model of the chosen class, or of the last one: N1 to N11
+-- the flat model of the chosen class, or of the last one, with what holds of each raw model: N1 to N11
 abbrev pub Flattens : List ℕ → Tree → Option (List ℕ) → Result RawModel FlattenEnd → Type 0
 Flattens text tree class result = flattening.Answers text tree.classes (chosen_by text tree.classes class) result × IfOk result IsRawModel
 

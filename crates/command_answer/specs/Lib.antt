@@ -1,4 +1,5 @@
 pub mod Actions
+pub mod Calls
 pub mod Codes
 pub mod Layers
 pub mod Stages

@@ -5,5 +5,5 @@
 mod law;
 mod status;
 
-pub use law::one_answer_law;
+pub use law::{call_law, one_answer_law, printed_law};
 pub use status::Status;
