@@ -1,0 +1,10 @@
+pub mod Calling
+pub mod Clocks
+pub mod Joined
+pub mod Models
+pub mod OneAnswer
+pub mod Orders
+pub mod Running
+pub mod SameTerms
+pub mod Tables
+pub mod Texts

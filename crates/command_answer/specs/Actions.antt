@@ -1,0 +1,88 @@
+-- The answer of a command: what it does, stage by stage, up to the one that ends it. This project's own.
+use Rattle.std.specs.Prelude.{◌≡◌, ℕ, ◌⊎◌, List, Option, Some, None}
+use Rattle.outside_io.specs.Files.{Told, File}
+use Rattle.command_words.specs.Choice.{Choice}
+use Rattle.command_words.specs.declared.command.Mode.{Mode}
+use Rattle.command_words.specs.declared.command.Mode.TheVariants.{Run, Flat, Clocks}
+use Rattle.flat_model.specs.declared.model.FlatModel.{FlatModel}
+use Rattle.flat_model.specs.declared.clock.Clocking.{Clocking}
+use Rattle.flat_model.specs.declared.table.Table.{Table}
+use Rattle.flat_model.specs.declared.place.Place.TheVariants as place
+use Rattle.flat_model.specs.Setting.{Setting}
+use Rattle.flat_model.specs.Runs.{IsWholeRun, IsFaultedRun}
+use Rattle.trace_print.specs.Modes.{flat_text, clocks_text}
+use Rattle.command_answer.specs.declared.status.Status.TheVariants.{Done, Faulted}
+use Rattle.command_answer.specs.Layers.{asked, few, lexed, parsed, flattened, typed, termed, classed, solved, checked, ordered, tabled, untabled, counted, timed}
+use Rattle.command_answer.specs.Stages.{Answer, Stage, ◌>>=◌, ◌>>◌, always, ends_with, printed}
+
+-- the most bytes of a model
+abbrev pub model_limit : ℕ
+model_limit = 1048576
+
+-- the most bytes of a table
+abbrev pub table_limit : ℕ
+table_limit = 16777216
+
+-- a run puts its whole trace on out, or the rows before its first fault
+abbrev pub Runs : Setting → Answer → Type 0
+Runs s answer = ((answer.status ≡ Done) × IsWholeRun s answer.out answer.err) ⊎ ((answer.status ≡ Faulted) × IsFaultedRun s answer.out answer.err)
+
+-- the only clocking of a model
+unfoldable pub clocking_of : FlatModel → Stage Clocking
+clocking_of flat = do
+  terms ← termed flat
+  classes ← classed flat
+  grids ← solved terms classes
+  checked flat terms classes grids
+
+module _ (reads : List ℕ → Stage (List ℕ)) where
+  -- the flat model that a command asks for
+  unfoldable pub model_of : Choice → Stage FlatModel
+  model_of c = do
+    text ← reads c.model
+    few model_limit place.Model text
+    tokens ← lexed text
+    tree ← parsed text tokens
+    raw ← flattened text tree c.class
+    typed raw
+
+  -- the table of its inputs
+  unfoldable pub table_of : FlatModel → Option (List ℕ) → Stage Table
+  table_of flat None = untabled flat
+  table_of flat (Some file) = do
+    bytes ← reads file
+    few table_limit place.Table bytes
+    tabled flat bytes
+
+  -- what is done with it in each mode
+  unfoldable pub in_mode : Mode → Choice → FlatModel → Stage (Unit {0})
+  in_mode Flat c flat = ends_with (λ answer. answer ≡ printed (flat_text flat))
+  in_mode Clocks c flat = do
+    clocking ← clocking_of flat
+    ends_with (λ answer. answer ≡ printed (clocks_text flat clocking))
+  in_mode Run c flat = do
+    clocking ← clocking_of flat
+    order ← ordered flat clocking
+    table ← table_of flat c.table
+    counted clocking table c.stop
+    instants ← timed clocking table c.stop
+    ends_with (Runs (record { model = flat; clocking = clocking; table = table; instants = instants }))
+
+  -- the order of actions
+  unfoldable pub actions : List (List ℕ) → Stage (Unit {0})
+  actions words = do
+    c ← asked words
+    flat ← model_of c
+    in_mode c.mode c flat
+
+-- files that are read as they are told
+unfoldable pub told_files : (List ℕ → Told) → List ℕ → Stage (List ℕ)
+told_files told name = always (λ bytes. told name ≡ File bytes)
+
+-- the answer of words, over the files that are told
+abbrev pub IsAnswer : (List ℕ → Told) → List (List ℕ) → Answer → Type 0
+IsAnswer told words answer = (actions (told_files told) words).ends answer
+
+-- two answers of words, over the files that are told, are one
+abbrev pub OneAnswerLaw : Type 0
+OneAnswerLaw = (told : List ℕ → Told) (words : List (List ℕ)) (a b : Answer) → IsAnswer told words a → IsAnswer told words b → a ≡ b
