@@ -4,7 +4,6 @@
 mod fault;
 mod model;
 mod moments;
-mod row;
 mod sheet;
 mod steps;
 

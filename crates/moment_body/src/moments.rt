@@ -1,9 +1,9 @@
 use crate::fault::{earlier, fault_of};
 use crate::model::ClockedModel;
-use crate::row::fill_row;
 use crate::sheet::Sheet;
 use crate::steps::Steps;
 use flat_model::{Fault, Moment};
+use moment_inputs::fill_row;
 use outside_io::Gate;
 use run_moments::Body;
 use site_risings::{answer_sites, note_sites};
