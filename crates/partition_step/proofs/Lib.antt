@@ -1,0 +1,10 @@
+pub mod Ending
+pub mod Intervals
+pub mod Lists
+pub mod OneStep
+pub mod Placing
+pub mod Prepared
+pub mod Reaching
+pub mod Resting
+pub mod Starting
+pub mod Uncut
