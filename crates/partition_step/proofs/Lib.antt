@@ -1,5 +1,6 @@
 pub mod Ending
 pub mod Intervals
+pub mod Laid
 pub mod Lists
 pub mod OneStep
 pub mod Placing
@@ -7,4 +8,5 @@ pub mod Prepared
 pub mod Reaching
 pub mod Resting
 pub mod Starting
+pub mod Stepped
 pub mod Uncut

@@ -1,5 +1,5 @@
 //! How the uses of a part are laid out.
-ghost use Rattle.std.specs.Prelude.{◌≡◌, ℕ, ◌<◌, ◌≤◌, ◌+◌, ◌^◌, length, map, slice_get, vec_len, Some, IfOk};
+ghost use Rattle.std.specs.Prelude.{◌≡◌, ℕ, ◌<◌, ◌≤◌, ◌+◌, ◌^◌, length, map, slice_get, slice_set, vec_len, Some, IfOk};
 ghost use Rattle.flat_model.specs.Setting.{start_in};
 ghost use Rattle.moment_theory.specs.Free.{IsReachedBy};
 ghost use Rattle.eq_order.specs.Order.{use_of};
@@ -109,6 +109,15 @@ pub(crate) fn cells_of(alloc: Global, names: &[FlatName], uses: &[Use]) -> Resul
     Ok(cells)
 }
 
+/// Sets the place of a name, where the table has one for it.
+fn set_place(places: &mut [u32], name: u32, place: u32)
+    ensures { places.new ≡ slice_set places.old name place }
+{
+    if (name as usize) < places.len() {
+        places[name as usize] = place;
+    }
+}
+
 /// Gives the name of each use the place of the use, where the table has one for it.
 pub(crate) fn place(uses: &[Use], places: &mut [u32])
     requires { length uses.now < 2 ^ 32 }
@@ -117,9 +126,6 @@ pub(crate) fn place(uses: &[Use], places: &mut [u32])
     ensures size { length places.new ≡ length places.old }
 {
     for i in 0..uses.len() {
-        let name = uses[i].name as usize;
-        if name < places.len() {
-            places[name] = i as u32;
-        }
+        set_place(places, uses[i].name, i as u32);
     }
 }
