@@ -1,5 +1,5 @@
 -- Uses laid out one by one.
-use Rattle.std.proofs.Common.{◌≡◌, ◌≢◌, refl, ap, ap₂, ◌∙◌, sym, subst, ℕ, zero, suc, ◌+◌, ◌<◌, ◌≤◌, Bool, List, [], ◌∷◌, ◌++◌, length, map, take, get_or, length-set, Option, Some, None, is_none, slice_get, slice_set, ◌⊎◌, inl, inr, arith}
+use Rattle.std.proofs.Common.{◌≡◌, refl, ap, ◌∙◌, sym, subst, ℕ, zero, suc, ◌+◌, ◌<◌, ◌≤◌, Bool, List, [], ◌∷◌, ◌++◌, length, map, take, get_or, length-set, Some, None, is_none, slice_get, slice_set, ◌⊎◌, inl, inr, arith}
 use Rattle.std.proofs.lemmas.Bool.{cases_eq}
 use Rattle.std.proofs.lemmas.Option.{none-some, same_Some, slice_get-get_or}
 use Rattle.flat_model.specs.declared.clock.Clock.{Clock}
@@ -31,7 +31,7 @@ append_cases : {A : Type 0} (xs : List A) (y : A) (j : ℕ) (x : A) → slice_ge
 append_cases [] y zero x found = inr (refl, sym (same_Some y x found))
 append_cases [] y (suc j) x found = absurd (none-some x found)
 append_cases (z ∷ xs) y zero x found = inl found
-append_cases (z ∷ xs) y (suc j) x found = elim (append_cases xs y j x found) [ | inl here ↦ inl here | inr last ↦ inr (ap suc last.0, last.1) ]
+append_cases (z ∷ xs) y (suc j) x found = elim (append_cases xs y j x found) [ inl here ↦ inl here | inr last ↦ inr (ap suc last.0, last.1) ]
 
 append_long : {A : Type 0} (xs : List A) (x : A) → length (xs ++ x ∷ []) ≡ length xs + 1
 append_long [] x = refl

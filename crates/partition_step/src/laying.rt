@@ -94,7 +94,11 @@ fn start_of(names: &[FlatName], name: u32) -> Value
 }
 
 /// The cells of the names that uses reach, before the first moment.
-pub(crate) fn cells_of(alloc: Global, names: &[FlatName], uses: &[Use]) -> Result<Vec<Cell>, AllocError>
+pub(crate) fn cells_of(
+    alloc: Global,
+    names: &[FlatName],
+    uses: &[Use],
+) -> Result<Vec<Cell>, AllocError>
     ensures { IfOk result (λ cells. cells.items ≡ map (spec.new_cell names.now) uses.now) }
 {
     let mut cells = Vec::with_capacity(alloc, uses.len())?;

@@ -56,7 +56,12 @@ fn resting(clock: Clock, answers: &[Option<bool>]) -> Standing
     }
 }
 
-fn standing(classes: &[ClassKept], clocks: &[ClockNow], answers: &[Option<bool>], place: u32) -> Standing
+fn standing(
+    classes: &[ClassKept],
+    clocks: &[ClockNow],
+    answers: &[Option<bool>],
+    place: u32,
+) -> Standing
     ensures { result ≡ spec.standing_in answers.now (slice_get classes.now place) (slice_get clocks.now place) }
 {
     match classes.get(place as usize) {
