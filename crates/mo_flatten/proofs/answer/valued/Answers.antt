@@ -14,7 +14,7 @@ returns-in-Some c =
     let text = scopes.named.file.text.now in
     let classes = scopes.named.file.classes.now in
     let values = c.in_ok-values.values in
-    subst (λ e. Answers text classes (Some scopes.named.chosen) (Err e)) (sym (c.in_ok-end.ensures text classes))
+    subst (λ e. Answers text classes (Some scopes.named.chosen) (Err e)) (sym (c.in_ok-end-in-Some.ensures text classes))
     (answers_fault scopes c.args.items.now c.requires.items values.table values.found.items c.in-Some.fault
     (subst (faults.Answers text values.table values.found.items classes (variables text classes (map (seen text classes) c.args.items.now))) c.in-Some.is c.in_ok-values.ensures.fault))
 
@@ -30,6 +30,6 @@ returns c =
     let text = scopes.named.file.text.now in
     let classes = scopes.named.file.classes.now in
     let values = c.in_ok-values.values in
-    answers_model scopes c.args.items.now c.requires.items values.table values.found.items (slots.seen values.table values.found.items) c.in_ok-model.model
+    answers_model scopes c.args.items.now c.requires.items values.table values.found.items (slots.seen values.table values.found.items) c.in_ok-model-in-None.model
     (subst (faults.Answers text values.table values.found.items classes (variables text classes (map (seen text classes) c.args.items.now))) c.in-None.is c.in_ok-values.ensures.fault)
-    c.in_ok-values.ensures.are c.in_ok-model.ensures
+    c.in_ok-values.ensures.are c.in_ok-model-in-None.ensures

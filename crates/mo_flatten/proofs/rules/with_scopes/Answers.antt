@@ -14,8 +14,8 @@ returns-in-Some c text classes choice are =
     three_end text classes choice c.args.named scopes c.in_ok-scopes.ensures are c.in-Some.at
     (subst (IsFirstPlace (N3.Breaks scopes.named.file.text.now scopes.named.file.classes.now (Some scopes.named.chosen))) c.in-Some.is c.in_ok-at.ensures)
 
-pub returns-in-None : goal.returns-in-None
-returns-in-None c text classes choice are =
+pub returns : goal.returns
+returns c text classes choice are =
     let scopes = c.in_ok-scopes.scopes in
     scoped_here text classes choice c.args.named scopes c.in_ok-scopes.ensures are
     (subst (IsFirstPlace (N3.Breaks scopes.named.file.text.now scopes.named.file.classes.now (Some scopes.named.chosen))) c.in-None.is c.in_ok-at.ensures)
