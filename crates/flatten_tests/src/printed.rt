@@ -92,19 +92,17 @@ impl<'a> Printer<'a> {
         out.push_str(")")
     }
 
-    /// Adds two expressions in brackets, with what stands between them.
+    /// Adds an expression behind an operator, in brackets.
     #[cycle(expression)]
-    fn put_both(
+    fn put_behind(
         &self,
-        left: &RawExpr,
-        between: &str,
-        right: &RawExpr,
+        operator: &str,
+        part: &RawExpr,
         out: &mut String,
     ) -> Result<(), AllocError> {
         out.push_str("(")?;
-        self.put(left, out)?;
-        out.push_str(between)?;
-        self.put(right, out)?;
+        out.push_str(operator)?;
+        self.put(part, out)?;
         out.push_str(")")
     }
 
@@ -123,21 +121,21 @@ impl<'a> Printer<'a> {
             }
             RawExpr::Chain(parts, ops) => self.put_chain(parts.as_slice(), ops.as_slice(), out),
             RawExpr::Relation(rel, left, right) => {
-                self.put_both(left.get(), rel_text(*rel), right.get(), out)
+                out.push_str("(")?;
+                self.put(left.get(), out)?;
+                out.push_str(rel_text(*rel))?;
+                self.put(right.get(), out)?;
+                out.push_str(")")
             }
             RawExpr::Power(base, exponent) => {
-                self.put_both(base.get(), " ^ ", exponent.get(), out)
-            }
-            RawExpr::Neg(part) => {
-                out.push_str("(-")?;
-                self.put(part.get(), out)?;
+                out.push_str("(")?;
+                self.put(base.get(), out)?;
+                out.push_str(" ^ ")?;
+                self.put(exponent.get(), out)?;
                 out.push_str(")")
             }
-            RawExpr::Not(part) => {
-                out.push_str("(not ")?;
-                self.put(part.get(), out)?;
-                out.push_str(")")
-            }
+            RawExpr::Neg(part) => self.put_behind("-", part.get(), out),
+            RawExpr::Not(part) => self.put_behind("not ", part.get(), out),
             RawExpr::If(conditions, branches, other) => {
                 out.push_str("(if ")?;
                 self.put_all(conditions.as_slice(), " elseif ", out)?;
