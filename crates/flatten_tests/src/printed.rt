@@ -155,7 +155,7 @@ impl<'a> Printer<'a> {
         equation: &RawEq,
         out: &mut String,
     ) -> Result<(), AllocError> {
-        let number = number as u64 + 1;
+        let number = (number as u64).saturating_add(1);
         out.push_str(format!(in self.alloc; " / {number}")?.as_str())?;
         if let Some(clause) = equation.clause {
             let clause = u64::from(clause) + 1;
@@ -174,7 +174,7 @@ impl<'a> Printer<'a> {
         clock: &RawExpr,
         out: &mut String,
     ) -> Result<(), AllocError> {
-        let number = number as u64 + 1;
+        let number = (number as u64).saturating_add(1);
         out.push_str(format!(in self.alloc; " / when {number}: ")?.as_str())?;
         self.put(clock, out)
     }
