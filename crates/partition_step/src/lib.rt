@@ -1,0 +1,13 @@
+//! A base partition from moment to moment: its uses, with what is kept of its names and classes.
+#![tactic(auto)]
+
+mod keeping;
+mod laying;
+mod law;
+mod part;
+mod preparing;
+mod stepping;
+mod telling;
+
+pub use law::{one_step_law, places_law, rests_law};
+pub use part::{ClassKept, Outcome, Part};
