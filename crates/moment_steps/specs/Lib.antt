@@ -1,0 +1,6 @@
+pub mod Gathered
+pub mod Settled
+pub mod Standing
+pub mod Stepped
+pub mod Ticked
+pub mod private
