@@ -177,15 +177,15 @@ module _ (pure waiting : List Entry) (always : List ClockNow) (numbers : List �
       ]
 
   -- the row of each piece, by what its slot has
-  pub value_or : (slot : Slot Piece) (x : ℕ) → IsReachedBy x (own_uses slot) ⊎ (IsReachedBy x (own_uses slot) → ⊥) → Option Value
+  abbrev pub value_or : (slot : Slot Piece) (x : ℕ) → IsReachedBy x (own_uses slot) ⊎ (IsReachedBy x (own_uses slot) → ⊥) → Option Value
   value_or slot x (inl reached) = value_from places x slot
   value_or slot x (inr none) = base x
 
-  pub row_at : Option (Slot Piece) → Row
+  abbrev pub row_at : Option (Slot Piece) → Row
   row_at None x = base x
   row_at (Some slot) x = value_or slot x (reached_or (own_uses slot) x)
 
-  pub owns : ℕ → Row
+  abbrev pub owns : ℕ → Row
   owns i = row_at (slice_get new i)
 
   module _ (i : ℕ) (slot : Slot Piece) (found : slice_get new i ≡ Some slot) where
@@ -320,12 +320,12 @@ module _ (pure waiting : List Entry) (always : List ClockNow) (numbers : List �
             reached_piece_in (q ∷ qs) zero piece found y reached = reached_first q (joined qs) y (subst (IsReachedBy y) (sym (same_Some q piece found)) reached)
             reached_piece_in (q ∷ qs) (suc i) piece found y reached = reached_second q (joined qs) y (reached_piece_in qs i piece found y reached)
 
-        if_both : (b : Bool) → (if b then None {A = Value} else None) ≡ None
-        if_both true = refl
-        if_both false = refl
+        if_both : (b : Bool) (o : Option Value) → o ≡ None → (if b then o else None) ≡ None
+        if_both true o is = is
+        if_both false o is = refl
 
         by_cell : (o : Option Cell) → cell_in places slot.piece.part.cells.items y ≡ o → value_from places y slot ≡ None
-        by_cell None is = ap (λ o. if slot.counts then now_in o else None) is ∙ if_both slot.counts
+        by_cell None is = if_both slot.counts (now_in (cell_in places slot.piece.part.cells.items y)) (ap now_in is)
         by_cell (Some cell) is =
             let part = slot.piece.part in
             let at_cell = there places part.cells.items y cell is in

@@ -66,7 +66,7 @@ entry_of_use (first ∷ rest) u (inl is) = (first, inl refl, is)
 entry_of_use (first ∷ rest) u (inr member) = let (e, among, is) = entry_of_use rest u member in (e, inr among, is)
 
 -- the answer that a table has is the one that is read
-answer_flat : (o : Option (Option Bool)) → flattened o ≡ unwrap_or o None
+pub answer_flat : (o : Option (Option Bool)) → flattened o ≡ unwrap_or o None
 answer_flat None = refl
 answer_flat (Some o) = refl
 

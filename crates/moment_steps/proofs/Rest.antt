@@ -1,5 +1,5 @@
 -- The base partitions of a moment, and the uses that wait for a clock.
-use Rattle.std.proofs.Common.{◌≡◌, refl, ap, ◌∙◌, sym, subst, ℕ, zero, suc, ◌<◌, ◌≤◌, Bool, true, false, List, [], ◌∷◌, ◌++◌, length, map, Option, Some, None, slice_get, unwrap_or, Contains, arith, ◌⊎◌, inl, inr}
+use Rattle.std.proofs.Common.{◌≡◌, refl, ap, ◌∙◌, sym, subst, ℕ, zero, suc, ◌^◌, ◌<◌, ◌≤◌, Bool, true, false, List, [], ◌∷◌, ◌++◌, length, map, Option, Some, None, slice_get, unwrap_or, Contains, arith, ◌⊎◌, inl, inr}
 use Rattle.std.proofs.Math.Path.{fun_ext}
 use Rattle.std.proofs.lemmas.Bool.{cases_lt}
 use Rattle.std.proofs.lemmas.Option.{none-some, same_Some, slice_get-map, slice_get_past}
@@ -325,6 +325,13 @@ module _ (pure waiting : List Entry) (always : List ClockNow) (numbers : List �
 
       pub takes_rest : TakesRest stages Before model_now at ticks answers now Leaves last result
       takes_rest s uses A n between = taken_rest s uses A n between
+
+-- there are few classes
+pub may_tell : (pure waiting : List Entry) (always : List ClockNow) (numbers : List ℕ) (cells : List Cell) (ticked : List Bool) (places : List ℕ) (slots : List (Slot Piece)) (left : Left)
+    (model_now : ClockedModel) (at : Moment) (ticks : ℕ → Bool) (answers : List (Option Bool)) (now : Values)
+    → CanTakeRest (stages_in pure waiting slots) (Based-on pure waiting always numbers cells ticked places slots left) model_now at ticks answers now → length ticked < 2 ^ 32
+may_tell pure waiting always numbers cells ticked places slots left model_now at ticks answers now (s, uses, A, n, between) =
+    let few = between.based.few in let room = between.based.told_room in omega (arith, few, room)
 
 -- the stages stay where each slot was stepped or rests
 pub same_stages : (telling : Telling) (partitions : List ℕ) (pure waiting : List Entry) (slots new : List (Slot Piece)) → AreSteppedAt telling partitions slots new → stages_in pure waiting new ≡ stages_in pure waiting slots

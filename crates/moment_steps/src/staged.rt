@@ -1,3 +1,7 @@
+ghost use Rattle.std.specs.Prelude.{◌≡◌};
+ghost use Rattle.moment_body.specs.Stepping.{CanFill, FillsInputs, CanTakePure, TakesPure, CanTakeRest, TakesRest, CanKeep, Keeps};
+ghost use Rattle.moment_steps.specs.Steps.{stages_of, stands_of, based_of, ended_of};
+
 use crate::gathering::gather;
 use crate::keeping::keep_left;
 use crate::opening::{open_plain, open_ticking};
@@ -9,7 +13,7 @@ use crate::ticks::tell;
 use first_failure::EquationFailing;
 use flat_model::{Left, Moment};
 use fork_steps::Slot;
-use moment_body::{ClockedModel, Steps};
+use moment_body::ClockedModel;
 use outside_io::Gate;
 use std::alloc::Global;
 use std::thread::Threads;
@@ -43,27 +47,26 @@ pub struct StagedSteps {
     pub alloc: Global,
 }
 
-impl Steps for StagedSteps {
-    ghost use Rattle.moment_steps.specs.Settled.{stages_in, IsSettled};
-    ghost use Rattle.moment_steps.specs.Standing.{StandsBefore, HasEnded};
-
-    ghost stages = { λ w. stages_in w.pure w.waiting w.slots.items };
-
-    ghost stands = { λ w s A n. StandsBefore s A n w.pure w.waiting w.always w.numbers w.cells.items w.ticks.items w.places w.slots.items w.left };
-
-    ghost based = { λ w s A n base. StandsBefore s A n w.pure w.waiting w.always w.numbers w.cells.items w.ticks.items w.places w.slots.items w.left };
-
-    ghost ended = { λ w s A n base last. HasEnded s A n last w.pure w.waiting w.always w.numbers w.cells.items w.ticks.items w.places w.slots.items w.left };
-
-    fn fill_inputs(&self, model: &ClockedModel, at: Moment, now: &mut [Option<Value>]) {
+impl StagedSteps {
+    /// Puts the values of the inputs at a moment, and no others.
+    pub fn fill_inputs(&self, model: &ClockedModel, at: Moment, now: &mut [Option<Value>])
+        requires { CanFill model.now at now.old }
+        ensures { FillsInputs model.entry.now at now.old now.new }
+    {
         moment_inputs::fill_inputs(&model.table, at, now);
     }
 
-    fn take_pure(
+    /// Takes the uses that no clock decides of, over the values of the inputs. The answer is the failing equation of the
+    /// least number. It takes no memory.
+    pub fn take_pure(
         &mut self,
         model: &ClockedModel,
         now: &mut [Option<Value>],
-    ) -> Option<EquationFailing> {
+    ) -> Option<EquationFailing>
+        requires { CanTakePure (stages_of self.old) (stands_of self.old) model.now now.old }
+        ensures same { stages_of self.new ≡ stages_of self.old }
+        ensures takes { TakesPure (stages_of self.old) (stands_of self.old) model.entry.now now.old (based_of self.new) now.new result }
+    {
         let numbers = self.numbers.as_slice();
         let cells = self.cells.as_mut_slice();
         open_plain(numbers, self.left.last.as_slice(), now, cells);
@@ -78,7 +81,9 @@ impl Steps for StagedSteps {
         )
     }
 
-    fn take_rest<R: Threads + Sync, G: Gate + Sync, P: Ticking + Sync>(
+    /// Takes the uses of each base partition of which a class ticks, side by side, and then those that wait for a clock. The
+    /// answer is the failing equation of the least number. It takes no memory but that of threads.
+    pub fn take_rest<R: Threads + Sync, G: Gate + Sync, P: Ticking>(
         &mut self,
         rt: &R,
         gate: &G,
@@ -87,7 +92,11 @@ impl Steps for StagedSteps {
         plan: &P,
         answers: &[Option<bool>],
         now: &mut [Option<Value>],
-    ) -> Option<EquationFailing> {
+    ) -> Option<EquationFailing>
+        requires { CanTakeRest (stages_of self.old) (based_of self.old) model.now at (P.ticks plan.now) answers.now now.old }
+        ensures same { stages_of self.new ≡ stages_of self.old }
+        ensures takes { TakesRest (stages_of self.old) (based_of self.old) model.entry.now at (P.ticks plan.entry.now) answers.entry.now now.old (ended_of self.new) now.new result }
+    {
         let numbers = self.numbers.as_slice();
         let places = self.places.as_slice();
         let ticks = self.ticks.as_mut_slice();
@@ -128,7 +137,12 @@ impl Steps for StagedSteps {
         earlier(behind, told)
     }
 
-    fn keep(&mut self, now: &[Option<Value>]) {
+    /// Keeps the values of the moment for the moments behind it. It takes no memory.
+    pub fn keep(&mut self, now: &[Option<Value>])
+        requires { CanKeep (stages_of self.old) (ended_of self.old) now.now }
+        ensures same { stages_of self.new ≡ stages_of self.old }
+        ensures keeps { Keeps (stages_of self.old) (ended_of self.old) now.now (stands_of self.new) }
+    {
         keep_left(self.alloc, now, &mut self.left);
     }
 }

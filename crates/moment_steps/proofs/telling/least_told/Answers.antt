@@ -5,5 +5,5 @@ use Rattle.moment_steps.proofs.telling.least_told.Goals as goal
 pub loop-place-preserved : goal.loop-place-preserved
 loop-place-preserved c = record {
   within = let le = c.loop-place.invariant.within in omega (arith, le);
-  told = told_back c.args.slots.now c.loop-place.place c.loop-place.told c.told_in.result c.earlier-told.result _ c.loop-place-test.true c.loop-place.invariant.within c.loop-place.invariant.told c.told_in.ensures c.earlier-told.ensures;
+  told = told_back c.args.slots.now c.loop-place.place c.loop-place.told c.told_in.result c.earlier-told.result c.index-slots-place.result c.loop-place-test.true c.loop-place.invariant.within c.loop-place.invariant.told c.told_in.ensures c.earlier-told.ensures;
 }

@@ -7,7 +7,7 @@ use Rattle.moment_body.proofs.Written.{whole_back}
 use Rattle.partition_step.specs.private.Writing.{IsWritten}
 use Rattle.moment_steps.specs.private.Opening.{opened_by}
 use Rattle.moment_steps.proofs.Pure.{can_take_pure, takes_pure}
-use Rattle.moment_steps.proofs.staged.StagedStepsSteps.take_pure.Goals as goal
+use Rattle.moment_steps.proofs.staged.StagedSteps.take_pure.Goals as goal
 
 pub take_unclocked-requires : goal.take_unclocked-requires
 take_unclocked-requires c =

@@ -1,5 +1,5 @@
 use Rattle.moment_steps.proofs.Kept.{stands_next}
-use Rattle.moment_steps.proofs.staged.StagedStepsSteps.keep.Goals as goal
+use Rattle.moment_steps.proofs.staged.StagedSteps.keep.Goals as goal
 
 pub returns-clause-keeps : goal.returns-clause-keeps
 returns-clause-keeps c = λ s uses A n base behind.
