@@ -151,15 +151,12 @@ module _ (pure waiting : List Entry) (always : List ClockNow) (numbers : List �
             o.cell,
             o.found,
             sym (between.based.left_is.last z valued) ∙ last_found ∙ ap Some (sym (ap (λ c. c.kept) o.is ∙ ap (λ v. unwrap_or v o.was.kept) last_found)),
-            subst (StandsAs-of z) (sym (ap (λ c. c.standing) o.is))
+            subst (λ how. StandsAs s (with_row A n row) n (class_of_name s z) how) (sym (ap (λ c. c.standing) o.is))
                 (stands_as s A n (value_in now) row ticks answers between.ticks_are (λ site. answer_flat (slice_get answers site) ∙ between.answers_are site)
                 (same_site s uses stages.pure stages.pieces stages.waiting between.moment.staged.are A n at between.moment.here between.inputs between.are (value_in now) between.taken own_rows rows_alone row rows_beside between.moment.staged.reach)
                 (same_ticks s uses stages.pure stages.pieces stages.waiting between.moment.staged.are A n at between.moment.here between.inputs between.are (value_in now) between.taken own_rows rows_alone row rows_beside between.moment.staged.reach)
                 (class_of_name s z)),
           )
-        where
-          StandsAs-of : ℕ → Standing → Type 0
-          StandsAs-of z how = StandsAs s (with_row A n row) n (class_of_name s z) how
 
       rest_starts : IsStart s uses (stages.pure ++ joined stages.pieces) [] A n row (record { equations = s.model.equations; places = numbers; left = left; clocks = always }) waiting shown
       rest_starts = starts s uses (stages.pure ++ joined stages.pieces) [] waiting ordered A n between.moment.meets pure waiting always numbers between.based.settled left gathered (standing s.clocking ticks answers) cells shown between.based.room opens_here

@@ -1,6 +1,7 @@
-use Rattle.std.proofs.Common.{arith, ◌≡◌, ap, ◌∙◌, sym, subst, length, List, ◌∷◌, ℕ, ◌<◌, ◌^◌, slice_get, map, Option}
+use Rattle.std.proofs.Common.{rules, arith, ◌≡◌, ap, ◌∙◌, sym, subst, length, List, ◌∷◌, ℕ, ◌<◌, ◌^◌, slice_get, map, Option, Some}
 use Rattle.std.specs.Vec.{with_items}
 use Rattle.moment_body.specs.Stepping.{TakesRest}
+use Rattle.fork_steps.specs.declared.slot.Slot.{Slot}
 use Rattle.tree_step.specs.Starts.{CanStart}
 use Rattle.tree_step.specs.Takes.{TakesUses}
 use Rattle.first_failure.specs.declared.least.EquationFailing.{EquationFailing}
@@ -8,6 +9,7 @@ use Rattle.moment_join.specs.Told.{earlier, earliest}
 use Rattle.moment_body.proofs.Written.{whole_back}
 use Rattle.partition_step.specs.Steps.{Telling, CanStep}
 use Rattle.partition_step.specs.private.Writing.{IsWritten}
+use Rattle.moment_steps.specs.declared.piece.Piece.{Piece}
 use Rattle.moment_steps.specs.Gathered.{told_in, gathered_at}
 use Rattle.moment_steps.specs.Stepped.{AreSteppedAt}
 use Rattle.moment_steps.specs.Ticked.{row_ticks}
@@ -31,9 +33,12 @@ step_parts-requires g c =
     let ticks = g.P.Ticking.ticks c.args.plan.now in
     let told = c.tell.new.ticks in
     let tells : IsWritten (λ class old. ticks class) w.ticks.items told = subst (λ old. IsWritten (λ class was. ticks class) old told) c.as_mut_slice-ticks.ensures.value c.tell.ensures in
+    let can : (i : ℕ) (slot : Slot Piece) → slice_get c.as_mut_slice-slots.result.now i ≡ Some slot
+        → CanStep (record { equations = c.args.model.now.flat.equations; places = c.as_slice-places.result.now; moment = c.args.at; ticks = row_ticks told; answers = c.args.answers.now; left = w.left }) slot.piece.part =
     λ i slot found. subst (λ ps. CanStep (record { equations = c.args.model.now.flat.equations; places = ps; moment = c.args.at; ticks = row_ticks told; answers = c.args.answers.now; left = w.left }) slot.piece.part) (sym c.as_slice-places.ensures)
         (can_step_all w.pure w.waiting w.always w.numbers w.cells.items w.ticks.items w.places w.slots.items w.left c.args.model.now c.args.at ticks c.args.answers.now c.args.now.now told tells c.requires i slot
-        (ap (λ l. slice_get l i) (sym c.as_mut_slice-slots.ensures.value) ∙ found))
+        (ap (λ l. slice_get l i) (sym c.as_mut_slice-slots.ensures.value) ∙ found)) in
+    (search rules, (search rules, can))
 
 pub take_unclocked-behind-requires : goal.take_unclocked-behind-requires
 take_unclocked-behind-requires g c =
