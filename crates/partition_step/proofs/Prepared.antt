@@ -138,6 +138,10 @@ module _ (own : List Use) (entries : List Entry) (classes : List ClassKept) (cel
         let below : c < length s.clocking.clocks =
         class_below s (slice_get s.clocking.of_equation taken.equation) c (λ inner inner_found. all_at (IsClassBelow (length s.clocking.clocks)) s.clocking.of_equation taken.equation inner piece.ordered.runs.classes.of_equation inner_found) (in_partition k taken use_found) in
         (clock_in s.clocking c, at_map (λ k. k.clock) classes j kept kept_found ∙ ap (λ d. Some d.clock) is, subst (λ d. clock_of s (Some d) ≡ Some (clock_in s.clocking c)) same (clock_some s c below));
+    from_use = λ j class found.
+        let (kept, kept_found, number) = map_at (λ k. k.class) classes j class found in
+        let (k, taken, use_found, is) = laid.fresh j kept kept_found in
+        (use_of taken, own_has k taken use_found, in_partition k taken use_found ∙ ap Some (ap (λ d. d.class) (sym is) ∙ number));
   }
 
   pub prepared : (part : Part) → part.entries ≡ entries → part.cells.items ≡ cells → part.classes.items ≡ classes → length part.clocks.items ≡ length part.classes.items

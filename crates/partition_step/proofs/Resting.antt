@@ -66,6 +66,7 @@ places s own old new part of same =
         spines = laid.spines;
         of_class = laid.of_class;
         clocks_are = laid.clocks_are;
+        from_use = laid.from_use;
       };
       room = of.room;
     }

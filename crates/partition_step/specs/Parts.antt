@@ -32,7 +32,7 @@ numbers_of classes = map (λ kept. kept.class) classes
 abbrev pub clocks_of : List ClassKept → List Clock
 clocks_of classes = map (λ kept. kept.clock) classes
 
--- uses as they are laid out: cell by cell their names, each in the place that the table has for it, and for each the place of its class
+-- uses as they are laid out: cell by cell their names, each in the place that the table has for it, and for each the place of its class; each class is that of one of them
 pub record IsLaid (s : Setting) (own : List Use) (places : List ℕ) (entries : List Entry) (names classes : List ℕ) (clocks : List Clock) : Type 0 where
   pub uses_are : uses_of entries ≡ own
   pub names_are : names ≡ map (λ entry. entry.name) entries
@@ -40,6 +40,7 @@ pub record IsLaid (s : Setting) (own : List Use) (places : List ℕ) (entries : 
   pub spines : (entry : Entry) → IsAmong entry entries → (equation : Equation) × (slice_get s.model.equations entry.equation ≡ Some equation) × IsSpineOf entry.name equation entry.spine.left
   pub of_class : (entry : Entry) → IsAmong entry entries → (class : ℕ) × (slice_get classes entry.clock ≡ Some class) × (class_of_equation s entry.equation ≡ Some class) × (class_of_name s entry.name ≡ Some class)
   pub clocks_are : (j class : ℕ) → slice_get classes j ≡ Some class → (clock : Clock) × (slice_get clocks j ≡ Some clock) × (clock_of s (Some class) ≡ Some clock)
+  pub from_use : (j class : ℕ) → slice_get classes j ≡ Some class → (entry : Use) × Contains own entry × (class_of_equation s entry.equation ≡ Some class)
 
 -- a part is that of these uses, and has room for what is told of its classes
 pub record IsPartOf (s : Setting) (own : List Use) (places : List ℕ) (part : Part) : Type 0 where

@@ -1,0 +1,12 @@
+pub mod Rows
+pub mod Starting
+pub mod Copied
+pub mod Pure
+pub mod Parts
+pub mod Parted
+pub mod Marked
+pub mod Told
+pub mod Pieces
+pub mod Side
+pub mod Kept
+pub mod Rest
