@@ -1,0 +1,12 @@
+pub mod Ending
+pub mod Intervals
+pub mod Laid
+pub mod Lists
+pub mod OneStep
+pub mod Placing
+pub mod Prepared
+pub mod Reaching
+pub mod Resting
+pub mod Starting
+pub mod Stepped
+pub mod Uncut

@@ -1,0 +1,106 @@
+-- A step, from what each of its calls leaves.
+use Rattle.std.proofs.Common.{◌≡◌, refl, ap, ◌∙◌, sym, subst, ℕ, List, length, Option, Some, None}
+use Rattle.std.specs.Vec.{with_items}
+use Rattle.std.proofs.lemmas.List.{with_items_is}
+use Rattle.first_failure.specs.declared.least.EquationFailing.{EquationFailing}
+use Rattle.tree_step.specs.declared.cell.Cell.{Cell}
+use Rattle.tree_step.specs.declared.frame.ClockNow.{ClockNow}
+use Rattle.tree_step.specs.declared.taking.Entry.{Entry}
+use Rattle.tree_step.specs.Starts.{Sight, CanStart}
+use Rattle.tree_step.specs.Takes.{TakesUses}
+use Rattle.partition_step.specs.declared.part.ClassKept.{ClassKept}
+use Rattle.partition_step.specs.declared.part.Outcome.TheVariants.{Stepped, Failed}
+use Rattle.partition_step.specs.declared.part.Part.{Part}
+use Rattle.partition_step.specs.Steps.{Telling, CanStep, StepsFrom}
+use Rattle.partition_step.specs.private.Stepping.{told_at, begun_at, kept_cell, ticked_at}
+use Rattle.partition_step.specs.private.Writing.{IsWritten}
+use Rattle.partition_step.proofs.Ending.{fails, steps}
+use Rattle.partition_step.proofs.Starting.{starts}
+
+-- what was written to one list over one other was written to the same
+same_written : {A : Type 0} (write other : ℕ → A → A) (old from new to : List A) → other ≡ write → from ≡ old → to ≡ new → IsWritten other from to → IsWritten write old new
+same_written write other old from new to w f t written = subst (λ z. IsWritten z old new) w (subst (λ z. IsWritten other z new) f (subst (IsWritten other from) t written))
+
+-- the calls before the uses are taken: classes are told of, and cells are begun
+pub record Begun (telling : Telling) (part : Part) (clocks : List ClockNow) (cells : List Cell) : Type 0 where
+  pub tells : IsWritten (told_at telling.ticks telling.moment part.classes.items) part.clocks.items clocks
+  pub begins : IsWritten (begun_at telling.answers part.classes.items clocks part.entries) part.cells.items cells
+
+pub begun_by : (telling : Telling) (part : Part) (classes : List ClassKept) (from clocks : List ClockNow) → classes ≡ part.classes.items → from ≡ part.clocks.items → IsWritten (told_at telling.ticks telling.moment classes) from clocks
+    → (classes_again : List ClassKept) (clocks_again : List ClockNow) (entries : List Entry) (old cells : List Cell) → classes_again ≡ part.classes.items → clocks_again ≡ (with_items part.clocks clocks).items → entries ≡ part.entries → old ≡ part.cells.items
+    → IsWritten (begun_at telling.answers classes_again clocks_again entries) old cells → Begun telling part clocks cells
+begun_by telling part classes from clocks classes_are from_is tells classes_again clocks_again entries old cells again clocks_are entries_are old_is begins =
+    let tells_so : IsWritten (told_at telling.ticks telling.moment part.classes.items) part.clocks.items clocks =
+    same_written (told_at telling.ticks telling.moment part.classes.items) (told_at telling.ticks telling.moment classes) part.clocks.items from clocks clocks (ap (told_at telling.ticks telling.moment) classes_are) from_is refl tells in
+    let clocks_so : clocks_again ≡ clocks = clocks_are ∙ with_items_is part.clocks clocks (tells_so.size ∙ sym part.clocks.ok.0) in record {
+      tells = tells_so;
+      begins = same_written (begun_at telling.answers part.classes.items clocks part.entries) (begun_at telling.answers classes_again clocks_again entries) part.cells.items old cells cells
+          (ap (λ ks. begun_at telling.answers ks clocks_again entries) again ∙ ap (λ cs. begun_at telling.answers part.classes.items cs entries) clocks_so ∙ ap (begun_at telling.answers part.classes.items clocks) entries_are)
+          old_is refl begins;
+    }
+
+module _ (telling : Telling) (part : Part) (now_clocks : List ClockNow) (now_cells : List Cell) (b : Begun telling part now_clocks now_cells) where
+  abbrev pub sight_now : Sight
+  sight_now = record { equations = telling.equations; places = telling.places; left = telling.left; clocks = now_clocks }
+
+  pub clocks_now : (with_items part.clocks now_clocks).items ≡ now_clocks
+  clocks_now = with_items_is part.clocks now_clocks (b.tells.size ∙ sym part.clocks.ok.0)
+
+  pub cells_now : (with_items part.cells now_cells).items ≡ now_cells
+  cells_now = with_items_is part.cells now_cells (b.begins.size ∙ sym part.cells.ok.0)
+
+  -- the uses can be taken
+  pub can_start : CanStep telling part → (clocks : List ClockNow) (entries : List Entry) (cells : List Cell) → clocks ≡ (with_items part.clocks now_clocks).items → entries ≡ part.entries → cells ≡ (with_items part.cells now_cells).items
+      → CanStart (record { equations = telling.equations; places = telling.places; left = telling.left; clocks = clocks }) entries cells
+  can_start can clocks entries cells clocks_are entries_are cells_are =
+      subst (λ k. CanStart (record { equations = telling.equations; places = telling.places; left = telling.left; clocks = k }) entries cells) (sym (clocks_are ∙ clocks_now))
+      (subst (λ e. CanStart sight_now e cells) (sym entries_are) (subst (CanStart sight_now part.entries) (sym (cells_are ∙ cells_now)) (record {
+        s = can.s;
+        uses = can.uses;
+        before = can.before;
+        after = can.after;
+        S = can.S;
+        m = can.m;
+        base = can.base;
+        start = starts can.s can.uses can.before can.own can.after can.partition can.S can.m can.base telling part can.start now_clocks b.tells now_cells b.begins;
+      })))
+
+  module _ (clocks : List ClockNow) (entries : List Entry) (cells taken : List Cell) (result : Option EquationFailing) (clocks_are : clocks ≡ (with_items part.clocks now_clocks).items) (entries_are : entries ≡ part.entries) (cells_are : cells ≡ (with_items part.cells now_cells).items)
+      (takes : TakesUses (record { equations = telling.equations; places = telling.places; left = telling.left; clocks = clocks }) entries cells taken result) (size : length taken ≡ length cells) where
+    takes_now : TakesUses sight_now part.entries now_cells taken result
+    takes_now =
+        subst (λ cs. TakesUses sight_now part.entries cs taken result) (cells_are ∙ cells_now)
+        (subst (λ e. TakesUses sight_now e cells taken result) entries_are
+        (subst (λ k. TakesUses (record { equations = telling.equations; places = telling.places; left = telling.left; clocks = k }) entries cells taken result) (clocks_are ∙ clocks_now) takes))
+
+    long : length taken ≡ length now_cells
+    long = size ∙ ap length (cells_are ∙ cells_now)
+
+    taken_now : (with_items (with_items part.cells now_cells) taken).items ≡ taken
+    taken_now = with_items_is (with_items part.cells now_cells) taken (long ∙ b.begins.size ∙ sym part.cells.ok.0)
+
+    room : length (with_items part.clocks now_clocks).items ≡ length part.clocks.items
+    room = ap length clocks_now ∙ b.tells.size
+
+    pub steps_some : (failing : EquationFailing) → result ≡ Some failing
+        → StepsFrom telling part (record { entries = part.entries; cells = with_items (with_items part.cells now_cells) taken; classes = part.classes; clocks = with_items part.clocks now_clocks }) (Failed failing)
+    steps_some failing told s uses before own after partition S m base start =
+        fails s uses before own after partition S m base telling part start now_clocks b.tells now_cells b.begins taken result long
+        (takes_now s uses before after S m base (starts s uses before own after partition S m base telling part start now_clocks b.tells now_cells b.begins))
+        (record { entries = part.entries; cells = with_items (with_items part.cells now_cells) taken; classes = part.classes; clocks = with_items part.clocks now_clocks })
+        failing told refl taken_now refl room
+
+    pub steps_none : result ≡ None → (from final : List Cell) → from ≡ (with_items (with_items part.cells now_cells) taken).items → IsWritten kept_cell from final
+        → (clocks_again : List ClockNow) (old noted : List ClassKept) → clocks_again ≡ (with_items part.clocks now_clocks).items → old ≡ part.classes.items → IsWritten (ticked_at telling.moment clocks_again) old noted
+        → StepsFrom telling part (record { entries = part.entries; cells = with_items (with_items (with_items part.cells now_cells) taken) final; classes = with_items part.classes noted; clocks = with_items part.clocks now_clocks }) Stepped
+    steps_none told from final from_is keeps clocks_again old noted again old_is notes s uses before own after partition S m base start =
+        let keeps_so : IsWritten kept_cell taken final = same_written kept_cell kept_cell taken from final final refl (from_is ∙ taken_now) refl keeps in
+        let notes_so : IsWritten (ticked_at telling.moment now_clocks) part.classes.items noted =
+        same_written (ticked_at telling.moment now_clocks) (ticked_at telling.moment clocks_again) part.classes.items old noted noted (ap (ticked_at telling.moment) (again ∙ clocks_now)) old_is refl notes in
+        steps s uses before own after partition S m base telling part start now_clocks b.tells now_cells b.begins taken result long
+        (takes_now s uses before after S m base (starts s uses before own after partition S m base telling part start now_clocks b.tells now_cells b.begins))
+        (record { entries = part.entries; cells = with_items (with_items (with_items part.cells now_cells) taken) final; classes = with_items part.classes noted; clocks = with_items part.clocks now_clocks })
+        final keeps_so noted notes_so told refl
+        (with_items_is (with_items (with_items part.cells now_cells) taken) final (keeps_so.size ∙ long ∙ b.begins.size ∙ sym part.cells.ok.0))
+        (with_items_is part.classes noted (notes_so.size ∙ sym part.classes.ok.0))
+        room

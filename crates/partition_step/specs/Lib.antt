@@ -1,0 +1,5 @@
+pub mod Laws
+pub mod Parts
+pub mod Prepared
+pub mod Steps
+pub mod private
