@@ -1,5 +1,5 @@
 -- The stages of the clocks of a model, where each of them ends.
-use Rattle.std.proofs.Common.{◌≡◌, sym, ◌∙◌, refl, inl, inr, ℕ, ◌<◌, List, Ok, Err, All, length, Option, Some, None}
+use Rattle.std.proofs.Common.{◌≡◌, sym, ◌∙◌, refl, inl, inr, ℕ, ◌<◌, ◌⊎◌, List, Ok, Err, All, length, Option, Some, None}
 use Rattle.std.proofs.lemmas.List.Elements.{All-weaker}
 use Rattle.flat_model.specs.declared.clock.Clocking.{Clocking}
 use Rattle.flat_model.specs.declared.equation.Equation.{Equation}
@@ -16,6 +16,11 @@ use Rattle.sub_clock_solve.specs.declared.kinds.SolveEnd.{SolveEnd}
 use Rattle.sub_clock_solve.specs.Solving.{Solves}
 use Rattle.clock_check.specs.declared.kinds.CheckEnd.{CheckEnd}
 use Rattle.clock_check.specs.Checking.{Checks}
+use Rattle.clock_terms.specs.Asked.{IsGiven}
+use Rattle.clock_check.specs.Inferring.{IsInferred}
+use Rattle.sub_clock_solve.specs.Standing.{FitTogether}
+use Rattle.flat_model.specs.Runnable.{AreClocks}
+use Rattle.clock_ready.proofs.Fitting.{fits}
 use Rattle.command_answer.specs.Actions.{clocking_of}
 use Rattle.command_answer.specs.Layers.{termed, classed, solved, checked}
 use Rattle.command_answer.specs.Stages.{◌>>=◌, always, layer}
@@ -31,6 +36,18 @@ has_clauses flat is = All-weaker _ _ (λ equation below. by_clause (clause_of eq
     by_clause : (clause : Option ℕ) → ((c : ℕ) → clause ≡ Some c → c < length flat.clauses) → IsClauseBelow (length flat.clauses) clause
     by_clause None below = tt
     by_clause (Some c) below = below c refl
+
+-- terms and classes fit together
+pub fit_together : (flat : FlatModel) (terms : Terms) (classes : Classes) → IsModel flat → AreTermsOf flat terms → Classifies flat (Ok classes) → FitTogether terms classes
+fit_together flat terms classes is are k = (fits flat terms classes is are k.are).0
+
+pub known_factors : (flat : FlatModel) (terms : Terms) (classes : Classes) → IsModel flat → AreTermsOf flat terms → Classifies flat (Ok classes)
+    → All (λ relation. IsGiven relation.by ⊎ IsInferred relation.by) terms.relations
+known_factors flat terms classes is are k = (fits flat terms classes is are k.are).1
+
+-- the clocks of a clocking are in their limits
+pub are_clocks : (flat : FlatModel) (terms : Terms) (classes : Classes) (grids : List Grid) (clocking : Clocking) → Checks flat terms classes grids (Ok clocking) → AreClocks clocking
+are_clocks flat terms classes grids clocking p = p.1.limits
 
 module _ (flat : FlatModel) (terms : Terms) (are : AreTermsOf flat terms) where
   pub unclassed : (e : ClassEnd) → Classifies flat (Err e) → Halts (clocking_of flat) (of_classes e)

@@ -1,5 +1,6 @@
 mod Spots
 pub mod Halting
+pub mod Models
 mod Clocked
 mod Layered
 mod Placed

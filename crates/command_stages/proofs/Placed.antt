@@ -54,16 +54,16 @@ module _ (flat : FlatModel) (classes : Classes) (are : AreClassesOf flat classes
   grid_place grids c g is = has_place c (gridded (slice_index_or classes.clocked c false) _ g is)
 
   pub solve_placed : (terms : Terms) (e : SolveEnd) → Solves terms classes (Err e) → HasPlace classes e
-  solve_placed terms (solve.Unknown c) p = has_place c p.holds.0
-  solve_placed terms (solve.TooFine c) (inl (held, gotten, (round, first, least))) = let (clock, takes, fine) = least.holds in has_place c (takes_clocked (said_of terms classes) round c clock takes)
+  solve_placed terms (solve.Unknown c) p = has_place c p.0.0
+  solve_placed terms (solve.TooFine c) (inl (held, gotten, (round, first, least))) = let (clock, takes, fine) = least.0 in has_place c (takes_clocked (said_of terms classes) round c clock takes)
   solve_placed terms (solve.TooFine c) (inr (held, grids, are_solved, past)) = has_place c past.0
   solve_placed terms (solve.Conflict i) p = tt
   solve_placed terms solve.NoMemory p = tt
 
   pub check_placed : (terms : Terms) (grids : List Grid) (e : CheckEnd) → Checks flat terms classes grids (Err e) → HasPlaceIn classes e
   check_placed terms grids (check.Factor i) p = tt
-  check_placed terms grids (check.EarlyStart c) p = let (g, is, early) = p.1.holds in grid_place grids c g is
-  check_placed terms grids (check.NotOnEvent c) p = let (g, is, early) = p.1.holds in grid_place grids c g is
-  check_placed terms grids (check.EventFactor c) p = let (g, is, early) = p.1.holds in grid_place grids c g is
+  check_placed terms grids (check.EarlyStart c) p = let (g, is, early) = p.1.0 in grid_place grids c g is
+  check_placed terms grids (check.NotOnEvent c) p = let (g, is, early) = p.1.0 in grid_place grids c g is
+  check_placed terms grids (check.EventFactor c) p = let (g, is, early) = p.1.0 in grid_place grids c g is
   check_placed terms grids (check.HoldInCondition i) p = tt
   check_placed terms grids check.NoMemory p = tt

@@ -80,7 +80,7 @@ table_place names are all code at no_header = tt
 table_place names are all code at (no_time header records_ none) = tt
 table_place names are all code at (no_input header records_ form begins column wrong first) = tt
 table_place names are all code at (missing header records_ form begins right x name missing first) = name_short names are x name missing.found
-table_place names are all code at (in_row header records_ form columns is code row column breaks) = tt
+table_place names are all code at (in_row header records_ form columns is own row column breaks) = tt
 table_place names are all code at (no_row header form columns is) = tt
 
 pub table_short : (flat : FlatModel) → IsModel flat → (all : List Record) (e : TableEnd) → tables.Answers flat.names all (Err e) → IsPrintable (of_table e)

@@ -80,6 +80,7 @@ fn no_clocking(alloc: Global, classes: &Classes, end: CheckEnd) -> End<'static>
 /// The first rule of clocks that the model breaks, from C1 to C10 in the order of the stages, or want of memory.
 ///
 /// Source: MLS 3.6, chapter 16, "Clock Partitioning" and "Sub-Clock Inferencing"; the order is this project's own.
+#[tactic(auto, using(crate::proofs::Clocked::has_clauses, crate::proofs::Clocked::are_clocks))]
 pub fn clocking_of(alloc: Global, flat: &FlatModel) -> Result<Clocking, End<'static>>
     requires { IsModel flat.now }
     ensures made { IfOk result (clocking_of flat.now).makes }
