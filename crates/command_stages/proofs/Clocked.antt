@@ -2,7 +2,6 @@
 use Rattle.std.proofs.Common.{◌≡◌, sym, ◌∙◌, refl, inl, inr, ℕ, ◌<◌, ◌⊎◌, List, Ok, Err, All, length, Option, Some, None}
 use Rattle.std.proofs.lemmas.List.Elements.{All-weaker}
 use Rattle.flat_model.specs.declared.clock.Clocking.{Clocking}
-use Rattle.flat_model.specs.declared.equation.Equation.{Equation}
 use Rattle.flat_model.specs.declared.model.FlatModel.{FlatModel}
 use Rattle.flat_model.specs.Models.{IsModel, clause_of}
 use Rattle.clock_terms.specs.declared.data.Terms.{Terms}

@@ -1,5 +1,5 @@
 -- How a command that ends early in one of its stages ends in the chain.
-use Rattle.std.proofs.Common.{◌≡◌, refl, sym, subst, ◌∙◌, inl, inr, Option, Some, None, Result, Ok, Err, IfErr}
+use Rattle.std.proofs.Common.{◌≡◌, refl, sym, subst, inl, inr, Some, None, Result, Ok, Err, IfErr}
 use Rattle.std.specs.Result.{IsErrAnd}
 use Rattle.flat_answer.specs.declared.end.FlattenEnd.{FlattenEnd}
 use Rattle.flat_answer.specs.declared.end.FlattenEnd.TheVariants as flatten
@@ -13,7 +13,7 @@ use Rattle.input_table.specs.declared.ends.TableEnd.{TableEnd}
 use Rattle.input_table.specs.declared.ends.TableEnd.TheVariants as table
 use Rattle.tick_plan.specs.declared.plan_end.PlanEnd.{PlanEnd}
 use Rattle.tick_plan.specs.declared.plan_end.PlanEnd.TheVariants as plan
-use Rattle.command_answer.specs.Stages.{Answer, Stage, ◌>>=◌, layer}
+use Rattle.command_answer.specs.Stages.{Stage, ◌>>=◌}
 use Rattle.command_answer.specs.Told.{told_names, told_types, told_classes, told_order, told_table, told_plan}
 use Rattle.command_stages.specs.declared.end.End.{End}
 use Rattle.command_stages.specs.declared.end.End.TheVariants.{NoMemory}

@@ -1,5 +1,5 @@
 -- The stages of single layers, as the layers answer.
-use Rattle.std.proofs.Common.{◌≡◌, ap, sym, ◌∙◌, inl, inr, ℕ, List, Ok, Err}
+use Rattle.std.proofs.Common.{sym, ◌∙◌, ℕ, List, Ok, Err}
 use Rattle.rational_time.specs.declared.ratio.Ratio.{Ratio}
 use Rattle.command_words.specs.Answer.{IsCommand, IsUsage}
 use Rattle.command_words.specs.Choice.{Choice}

@@ -1,5 +1,5 @@
 -- The stages of the flat model of a command, for the chain that joins the functions of this crate.
-use Rattle.std.proofs.Common.{◌≡◌, refl, sym, subst, ◌∙◌, inl, inr, ℕ, List, Ok, Err, option_map}
+use Rattle.std.proofs.Common.{sym, subst, ◌∙◌, inl, inr, ℕ, List, Ok, Err}
 use Rattle.command_words.specs.Choice.{Choice}
 use Rattle.mo_parser.specs.declared.tree.Tree.{Tree}
 use Rattle.flat_model.specs.declared.model.FlatModel.{FlatModel}
@@ -7,8 +7,8 @@ use Rattle.flat_model.specs.declared.raw.RawModel.{RawModel}
 use Rattle.flat_model.specs.declared.place.Place.TheVariants as place
 use Rattle.flat_answer.specs.declared.end.FlattenEnd.{FlattenEnd}
 use Rattle.command_answer.specs.Actions.{model_of, model_limit}
-use Rattle.command_answer.specs.Layers.{few, lexed, parsed, flattened, typed, Flattens}
-use Rattle.command_answer.specs.Stages.{Stage, ◌>>=◌, ◌>>◌, always, layer}
+use Rattle.command_answer.specs.Layers.{few, flattened, typed, Flattens}
+use Rattle.command_answer.specs.Stages.{Stage, ◌>>=◌, always, layer}
 use Rattle.command_stages.specs.declared.end.End.{End}
 use Rattle.command_stages.specs.Ends.{Halts, of_names}
 use Rattle.command_stages.specs.Segments.{file_of, tree_of}

@@ -1,5 +1,5 @@
 -- Each class at which a rule of clocks is broken has a place.
-use Rattle.std.proofs.Common.{◌≡◌, refl, sym, ◌∙◌, ℕ, zero, suc, ◌<◌, ◌⊎◌, inl, inr, Bool, true, false, List, [], ◌∷◌, Option, Some, None, Err, length, slice_index_or, if◌then◌else◌, arith}
+use Rattle.std.proofs.Common.{◌≡◌, refl, ℕ, zero, suc, ◌<◌, ◌⊎◌, inl, inr, Bool, true, false, List, [], ◌∷◌, Option, Some, None, Err, length, slice_index_or, if◌then◌else◌, arith}
 use Rattle.flat_model.specs.declared.model.FlatModel.{FlatModel}
 use Rattle.clock_terms.specs.declared.data.Terms.{Terms}
 use Rattle.clock_terms.specs.declared.data.Classes.{Classes}
@@ -7,7 +7,7 @@ use Rattle.clock_terms.specs.declared.data.Grid.{Grid}
 use Rattle.clock_terms.specs.Classing.{AreClassesOf}
 use Rattle.clock_terms.specs.Clocking.{Said}
 use Rattle.clock_terms.specs.Position.{Progression}
-use Rattle.clock_spread.specs.Rounds.{first_some, if_clocked, offered, after_round}
+use Rattle.clock_spread.specs.Rounds.{first_some, if_clocked, after_round}
 use Rattle.sub_clock_solve.specs.declared.kinds.SolveEnd.{SolveEnd}
 use Rattle.sub_clock_solve.specs.declared.kinds.SolveEnd.TheVariants as solve
 use Rattle.sub_clock_solve.specs.Solving.{Solves, Takes, said_of}

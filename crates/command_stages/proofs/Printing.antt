@@ -1,11 +1,11 @@
 -- The modes that print a model or its clocks.
-use Rattle.std.proofs.Common.{◌≡◌, refl, ap, sym, ◌∙◌, inl, inr, ℕ, List, Option, Some, None}
+use Rattle.std.proofs.Common.{◌≡◌, ap, inl, inr, ℕ, List}
 use Rattle.flat_model.specs.declared.clock.Clocking.{Clocking}
 use Rattle.flat_model.specs.declared.model.FlatModel.{FlatModel}
 use Rattle.command_words.specs.declared.command.Mode.TheVariants.{Flat, Clocks}
 use Rattle.trace_print.specs.Modes.{flat_text, clocks_text}
 use Rattle.command_answer.specs.Actions.{clocking_of, in_mode}
-use Rattle.command_answer.specs.Stages.{Stage, ◌>>=◌, ends_with, printed}
+use Rattle.command_answer.specs.Stages.{◌>>=◌, ends_with, printed}
 use Rattle.command_stages.specs.declared.end.End.{End}
 use Rattle.command_stages.specs.Ends.{Halts}
 use Rattle.command_stages.specs.Segments.{HaltsIn, PrintsIn}

@@ -1,5 +1,5 @@
 -- The places of broken rules are short enough for a line.
-use Rattle.std.proofs.Common.{◌≡◌, refl, sym, subst, ℕ, ◌<◌, ◌≤◌, inl, inr, List, [], ◌∷◌, length, get_or, Some, Ok, Err, slice_get, All, arith}
+use Rattle.std.proofs.Common.{◌≡◌, refl, sym, subst, ℕ, ◌<◌, ◌≤◌, inl, inr, List, [], length, get_or, Some, Err, slice_get, All, arith}
 use Rattle.std.proofs.lemmas.Option.{slice_get_within, slice_get-get_or}
 use Rattle.flat_model.specs.declared.model.FlatModel.{FlatModel}
 use Rattle.flat_model.specs.declared.model.FlatName.{FlatName}
@@ -79,7 +79,7 @@ table_place : (names : List FlatName) → AreNames names → (all : List Record)
 table_place names are all code at no_header = tt
 table_place names are all code at (no_time header records_ none) = tt
 table_place names are all code at (no_input header records_ form begins column wrong first) = tt
-table_place names are all code at (missing header records_ form begins right x name missing first) = name_short names are x name missing.found
+table_place names are all code at (missing header records_ form begins right x name lack first) = name_short names are x name lack.found
 table_place names are all code at (in_row header records_ form columns is own row column breaks) = tt
 table_place names are all code at (no_row header form columns is) = tt
 

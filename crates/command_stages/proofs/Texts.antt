@@ -16,11 +16,10 @@ use Rattle.mo_parser.specs.declared.syntax.ParseEnd.TheVariants as syntax
 use Rattle.mo_parser.specs.grammar.Faults as grammar
 use Rattle.flat_answer.specs.Places.{place_at}
 use Rattle.trace_print.specs.declared.code.Code.TheVariants.{L0}
-use Rattle.command_answer.specs.Calls.{Outside, files_of, reads_in, ReadRose, read_fault}
+use Rattle.command_answer.specs.Calls.{Outside, files_of, reads_in, read_fault}
 use Rattle.command_answer.specs.Codes.{code_of_lexical, code_of_syntax}
 use Rattle.command_answer.specs.Layers.{few, lexed, parsed}
-use Rattle.command_answer.specs.Stages.{Answer, refused, ◌>>=◌, ◌>>◌, always, layer}
-use Rattle.command_stages.specs.declared.end.End.{End}
+use Rattle.command_answer.specs.Stages.{refused, ◌>>=◌, always, layer}
 use Rattle.command_stages.specs.declared.end.End.TheVariants.{Refused, ReadFault}
 use Rattle.command_stages.specs.Ends.{Halts}
 use Rattle.command_stages.specs.Reading.{IsStepOf}
@@ -62,8 +61,10 @@ module _ (o : Outside) (held : Option Files) (empty : Bool) (before after : List
   pub file_unread : (read : Bor (List ℕ)) → read.now ≡ name → Rose (before name) (after name) → Halts (file_of (reads_in o) limit place name) (ReadFault read)
   unfolding file_of reads_in few always ◌>>=◌
   file_unread read same rose answer is =
-      inl (rose_within (o.faults name) (before name) (after name) (o.faults_after name) (step.since name) (step.until name) rose,
-      let told : Some (read_fault read.now) ≡ Some answer = is in let one : answer ≡ read_fault read.now = cc in one ∙ ap read_fault same)
+      inl (
+        rose_within (o.faults name) (before name) (after name) (o.faults_after name) (step.since name) (step.until name) rose,
+        let told : Some (read_fault read.now) ≡ Some answer = is in let one : answer ≡ read_fault read.now = cc in one ∙ ap read_fault same,
+      )
 
 -- the tree of a text
 pub tree_makes : (text : List ℕ) (tokens : List Token) (tree : Tree) → Lexes text (Ok tokens) → grammar.Answers text 64 tokens (Ok tree) → (tree_of text).makes tree

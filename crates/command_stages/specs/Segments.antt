@@ -8,7 +8,7 @@ use Rattle.command_words.specs.declared.command.Mode.{Mode}
 use Rattle.command_answer.specs.Actions.{in_mode}
 use Rattle.command_answer.specs.Calls.{Outside, reads_in}
 use Rattle.command_answer.specs.Layers.{few, lexed, parsed}
-use Rattle.command_answer.specs.Stages.{Answer, Stage, ◌>>=◌, ◌>>◌, always, printed}
+use Rattle.command_answer.specs.Stages.{Stage, ◌>>=◌, ◌>>◌, always, printed}
 use Rattle.command_stages.specs.declared.end.End.{End}
 use Rattle.command_stages.specs.Ends.{Halts}
 
