@@ -164,9 +164,9 @@ module _ (pure waiting : List Entry) (always : List ClockNow) (numbers : List �
         part_of = subst (λ p. IsPartOf s (own_uses was) places p.part) (sym r.same) slot_of.part_of;
         goes_on = λ none T on. subst (λ p. StandsFor s T (suc n) p.part) (sym r.same)
             (rests s (own_uses was) places was.piece.part slot_of.part_of A T n (between.based.stand i was was_found) on.agrees (λ j kept kept_found.
-                let (entry, has, class) = slot_of.part_of.laid.from_use j kept.class (at_map (λ k. k.class) was.piece.part.classes.items j kept kept_found) in
-                let own : slice_get s.clocking.partitions kept.class ≡ Some i = sym (ap (partition_of s) class) ∙ slot_of.partition entry has in
-                sym (on.ticks kept.class) ∙ r.rests kept.class (ap (λ k. slice_get k.partitions kept.class) between.model_is.clocking ∙ own)));
+            let (entry, has, class) = slot_of.part_of.laid.from_use j kept.class (at_map (λ k. k.class) was.piece.part.classes.items j kept kept_found) in
+            let own : slice_get s.clocking.partitions kept.class ≡ Some i = sym (ap (partition_of s) class) ∙ slot_of.partition entry has in
+            sym (on.ticks kept.class) ∙ r.rests kept.class (ap (λ k. slice_get k.partitions kept.class) between.model_is.clocking ∙ own)));
       }
 
   pub slot_row : (i : ℕ) (slot : Slot Piece) → slice_get new i ≡ Some slot → SlotRow i slot

@@ -54,7 +54,7 @@ pub outside : (s : Setting) (uses before own after : List Use) → IsOrdered s u
 outside s uses before own after ordered S m now last wide taken x le =
     let ready = model s uses (before ++ (own ++ after)) ordered in
     unchanged s ready.unclocked S m own (value_in now) last taken x (λ reached.
-        let lt = valued_within s x (ready.whole.valued x (reached_in before own after x reached)) in omega (arith, lt, le))
+    let lt = valued_within s x (ready.whole.valued x (reached_in before own after x reached)) in omega (arith, lt, le))
     ∙ ap flattened (slice_get_past now x (omega (arith, le, wide)))
   where
     reached_in : (before own after : List Use) (x : ℕ) → IsReachedBy x own → IsReachedBy x (before ++ (own ++ after))

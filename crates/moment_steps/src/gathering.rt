@@ -13,11 +13,7 @@ fn partition_of(clocking: &Clocking, name: usize) -> Option<u32>
     ensures { result ≡ spec.partition_in clocking.now name }
 {
     match clocking.of_name.as_slice().get(name) {
-        Some(Some(class)) => clocking
-            .partitions
-            .as_slice()
-            .get(*class as usize)
-            .copied(),
+        Some(Some(class)) => clocking.partitions.as_slice().get(*class as usize).copied(),
         Some(None) => None,
         None => None,
     }

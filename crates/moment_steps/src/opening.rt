@@ -32,12 +32,7 @@ fn opened(
 }
 
 /// Opens the cells where no last values are read.
-pub(crate) fn open_plain(
-    numbers: &[u32],
-    last: &[Value],
-    now: &[Option<Value>],
-    cells: &mut [Cell],
-)
+pub(crate) fn open_plain(numbers: &[u32], last: &[Value], now: &[Option<Value>], cells: &mut [Cell])
     ensures { IsWritten (spec.opened_by numbers.now last.now now.now (λ x. Ticks)) cells.old cells.new }
 {
     for at in 0..cells.len() {
@@ -114,8 +109,6 @@ pub(crate) fn open_ticking<P: Ticking>(
     ensures { IsWritten (spec.opened_by numbers.now last.now now.now (spec.standing clocking.now (P.ticks plan.now) answers.now)) cells.old cells.new }
 {
     for at in 0..cells.len() {
-        cells[at] = opened_ticking(
-            clocking, plan, answers, numbers, last, now, at, cells[at],
-        );
+        cells[at] = opened_ticking(clocking, plan, answers, numbers, last, now, at, cells[at]);
     }
 }

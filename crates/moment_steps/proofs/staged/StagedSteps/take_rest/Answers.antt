@@ -34,10 +34,10 @@ step_parts-requires g c =
     let told = c.tell.new.ticks in
     let tells : IsWritten (λ class old. ticks class) w.ticks.items told = subst (λ old. IsWritten (λ class was. ticks class) old told) c.as_mut_slice-ticks.ensures.value c.tell.ensures in
     let can : (i : ℕ) (slot : Slot Piece) → slice_get c.as_mut_slice-slots.result.now i ≡ Some slot
-        → CanStep (record { equations = c.args.model.now.flat.equations; places = c.as_slice-places.result.now; moment = c.args.at; ticks = row_ticks told; answers = c.args.answers.now; left = w.left }) slot.piece.part =
+    → CanStep (record { equations = c.args.model.now.flat.equations; places = c.as_slice-places.result.now; moment = c.args.at; ticks = row_ticks told; answers = c.args.answers.now; left = w.left }) slot.piece.part =
     λ i slot found. subst (λ ps. CanStep (record { equations = c.args.model.now.flat.equations; places = ps; moment = c.args.at; ticks = row_ticks told; answers = c.args.answers.now; left = w.left }) slot.piece.part) (sym c.as_slice-places.ensures)
-        (can_step_all w.pure w.waiting w.always w.numbers w.cells.items w.ticks.items w.places w.slots.items w.left c.args.model.now c.args.at ticks c.args.answers.now c.args.now.now told tells c.requires i slot
-        (ap (λ l. slice_get l i) (sym c.as_mut_slice-slots.ensures.value) ∙ found)) in
+    (can_step_all w.pure w.waiting w.always w.numbers w.cells.items w.ticks.items w.places w.slots.items w.left c.args.model.now c.args.at ticks c.args.answers.now c.args.now.now told tells c.requires i slot
+    (ap (λ l. slice_get l i) (sym c.as_mut_slice-slots.ensures.value) ∙ found)) in
     (search rules, (search rules, can))
 
 pub take_unclocked-behind-requires : goal.take_unclocked-behind-requires
@@ -125,7 +125,7 @@ returns-clause-takes g c =
     let long : length taken ≡ length w.cells.items = c.take_unclocked-behind.ensures.size ∙ opens.size in
     let result_is : c.earlier.result ≡ earliest (behind ∷ map told_in new) = c.earlier.ensures ∙ ap (earlier behind) c.least_told-told.ensures in
     subst (λ sl. TakesRest (stages_in w.pure w.waiting w.slots.items) (based_of w) m c.args.at ticks c.args.answers.now c.args.now.now
-        (λ s A n base end. HasEnded s A n end w.pure w.waiting w.always w.numbers (with_items w.cells taken).items (with_items w.ticks told).items w.places sl w.left) c.take_unclocked-behind.new.now c.earlier.result)
+    (λ s A n base end. HasEnded s A n end w.pure w.waiting w.always w.numbers (with_items w.cells taken).items (with_items w.ticks told).items w.places sl w.left) c.take_unclocked-behind.new.now c.earlier.result)
     (sym (whole_back w.slots.len w.slots.items new w.slots.ok.0 size))
     (takes_rest w.pure w.waiting w.always w.numbers w.cells.items w.ticks.items w.places w.slots.items w.left m c.args.at ticks c.args.answers.now c.args.now.now told tells new stepped gathered gathers shown opens
     taken behind takes c.take_unclocked-behind.ensures.size c.take_unclocked-behind.new.now c.take_unclocked-behind.ensures.values
