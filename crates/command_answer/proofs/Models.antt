@@ -13,7 +13,7 @@ use Rattle.command_answer.proofs.Joined.{IsOne, layer_one, not_memory}
 
 pub flattened_one : (text : List ℕ) (tree : Tree) (class : Option (List ℕ)) → IsOne (flattened text tree class)
 unfolding flattened
-flattened_one text tree class = layer_one _ _ (λ r s p q t u. flattening.one_answer text tree.classes (chosen_by text tree.classes class) r s p.0 q.0
+flattened_one text tree class = layer_one _ _ (λ r s p q t u. flattening.one_answer text tree.classes (chosen_by text tree.classes class) r s p q
     (not_memory told_names flatten.NoMemory refl r t) (not_memory told_names flatten.NoMemory refl s u))
 
 pub typed_one : (raw : RawModel) → IsOne (typed raw)

@@ -12,9 +12,11 @@ use Rattle.flat_model.specs.declared.table.Table.{Table}
 use Rattle.flat_model.specs.Models.{IsModel}
 use Rattle.flat_model.specs.Tables.{IsTableOf}
 use Rattle.trace_print.specs.Modes.{flat_text, clocks_text}
+use Rattle.class_scopes.specs.Reached.{chosen_by}
+use Rattle.flat_limits.proofs.Limits.{flat_limits}
 use Rattle.typed_model.proofs.Models.{typed_is_model}
 use Rattle.command_answer.specs.Actions.{model_limit, table_limit, model_of, table_of, in_mode, actions, told_files, OneAnswerLaw}
-use Rattle.command_answer.specs.Layers.{flattened, typed, tabled, untabled, ordered, Orders}
+use Rattle.command_answer.specs.Layers.{lexed, parsed, flattened, typed, tabled, untabled, ordered, Orders}
 use Rattle.command_answer.specs.Stages.{Stage, ◌>>=◌, layer, printed}
 use Rattle.command_answer.proofs.Clocks.{clocking_one, is_answered}
 use Rattle.command_answer.proofs.Joined.{IsOnly, IsOne, both_one, end_one, always_one}
@@ -35,8 +37,9 @@ module _ (reads : List ℕ → Stage (List ℕ)) (files : (name : List ℕ) → 
 
   -- what is made is a model
   is_model : (c : Choice) (flat : FlatModel) → (model_of reads c).makes flat → IsModel flat
-  unfolding model_of flattened typed layer ◌>>=◌
-  is_model c flat (text, m1, (x, m2, (tokens, m3, (tree, m4, (raw, m5, m6))))) = typed_is_model raw flat m5.1 m6
+  unfolding model_of lexed parsed flattened typed layer ◌>>=◌
+  is_model c flat (text, m1, (x, m2, (tokens, m3, (tree, m4, (raw, m5, m6))))) =
+      typed_is_model raw flat (flat_limits text tokens 64 tree (chosen_by text tree.classes c.class) raw m3 m4 m5.0 m5.1) m6
 
   table_one : (flat : FlatModel) (file : Option (List ℕ)) → IsModel flat → IsOne (table_of reads flat file)
   unfolding table_of

@@ -1,5 +1,5 @@
 -- Each layer of the program as a stage: what it makes of what it is given, or the first rule that is broken there. This project's own.
-use Rattle.std.specs.Prelude.{◌≡◌, ℕ, ◌<◌, ◌≤◌, List, Option, length, Result, IfOk}
+use Rattle.std.specs.Prelude.{◌≡◌, ℕ, ◌<◌, ◌≤◌, List, Option, length, Result}
 use Rattle.rational_time.specs.declared.ratio.Ratio.{Ratio}
 use Rattle.command_words.specs.Choice.{Choice}
 use Rattle.command_words.specs.Answer as command
@@ -12,11 +12,9 @@ use Rattle.flat_model.specs.declared.raw.RawModel.{RawModel}
 use Rattle.flat_model.specs.declared.clock.Clocking.{Clocking}
 use Rattle.flat_model.specs.declared.table.Table.{Table}
 use Rattle.flat_model.specs.declared.place.Place.{Place}
-use Rattle.flat_model.specs.RawModels.{IsRawModel}
 use Rattle.flat_model.specs.Moments.{AreInstants}
 use Rattle.flat_model.specs.Setting.{Setting}
 use Rattle.class_scopes.specs.Reached.{chosen_by}
-use Rattle.flat_answer.specs.declared.end.FlattenEnd.{FlattenEnd}
 use Rattle.flat_answer.specs.Answers as flattening
 use Rattle.flat_types.specs.Typed as types
 use Rattle.clock_terms.specs.declared.data.Terms.{Terms}
@@ -51,12 +49,9 @@ lexed text = layer (Lexes text) (told_lexical text)
 unfoldable pub parsed : List ℕ → List Token → Stage Tree
 parsed text tokens = layer (grammar.Answers text 64 tokens) (told_syntax text)
 
--- the flat model of the chosen class, or of the last one, with what holds of each raw model: N1 to N11
-abbrev pub Flattens : List ℕ → Tree → Option (List ℕ) → Result RawModel FlattenEnd → Type 0
-Flattens text tree class result = flattening.Answers text tree.classes (chosen_by text tree.classes class) result × IfOk result IsRawModel
-
+-- the flat model of the chosen class, or of the last one: N1 to N11
 unfoldable pub flattened : List ℕ → Tree → Option (List ℕ) → Stage RawModel
-flattened text tree class = layer (Flattens text tree class) told_names
+flattened text tree class = layer (flattening.Answers text tree.classes (chosen_by text tree.classes class)) told_names
 
 -- the same with its types: Y1 to Y5
 unfoldable pub typed : RawModel → Stage FlatModel

@@ -168,7 +168,8 @@ module _ (keeps : Setting → Assignment → ℕ → Type 0) (s : Setting) where
         by_moment Initial is = absurd (no_initial m later is)
         by_moment (At t) is = record {
           moment = m;
-          next = (bounds.0, later, bounds.1);
+          next = behind.step;
+          later = later;
           found = is;
           after = stands.ahead;
           agrees = agrees;
@@ -184,7 +185,7 @@ module _ (keeps : Setting → Assignment → ℕ → Type 0) (s : Setting) where
         let at : stands.run ≡ m = omega (arith, stands.run_is, all, stands.within) in
         let ends : EndsAt keeps s stands.ahead m (Some fault) = subst (λ n. EndsAt keeps s stands.ahead n (Some fault)) at (subst (EndsAt keeps s stands.ahead stands.run) is stands.ends) in record {
           moment = m;
-          next = bounds;
+          next = behind.step;
           found = ends.0;
           after = stands.ahead;
           agrees = agrees;

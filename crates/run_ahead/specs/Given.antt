@@ -1,5 +1,5 @@
 -- What a call of `advance` gives, and what follows from it for a run.
-use Rattle.std.specs.Prelude.{◌≡◌, ℕ, ◌+◌, ◌≤◌, ◌<◌, List, length, map, Option, Some}
+use Rattle.std.specs.Prelude.{◌≡◌, ◌⊎◌, ℕ, ◌+◌, ◌<◌, List, length, map, Option, Some}
 use Rattle.sync_values.specs.declared.value.Value.{Value}
 use Rattle.rational_time.specs.declared.ratio.Ratio.{Ratio}
 use Rattle.flat_model.specs.declared.clock.Moment.TheVariants.{At}
@@ -19,10 +19,15 @@ pub data Given : Type 0 where
   GaveEnd : Given
   GaveNothing : Given
 
+-- the moment with which a run goes on from m: m itself, or the one behind it where Initial is passed over
+abbrev pub IsNext : ℕ → ℕ → Type 0
+IsNext m moment = (moment ≡ m) ⊎ ((m ≡ 0) × (moment ≡ 1))
+
 -- the row is that of the next instant: an assignment that agrees with S before m meets the model up to that instant and has the row's values there, and whatever meets the model up to it has the same values; the runner then stands for that assignment. Initial, which has no row, is passed over.
 pub record GivesRow (stands : Setting → Assignment → ℕ → Type 0) (s : Setting) (S : Assignment) (m : ℕ) (at : Ratio) (values : List (Option Value)) : Type 0 where
   pub moment : ℕ
-  pub next : (m ≤ moment) × (0 < moment) × (moment ≤ m + 1)
+  pub next : IsNext m moment
+  pub later : 0 < moment
   pub found : moment_at s.instants moment ≡ Some (At at)
   pub after : Assignment
   pub agrees : AgreeBefore S after m
@@ -34,7 +39,7 @@ pub record GivesRow (stands : Setting → Assignment → ℕ → Type 0) (s : Se
 -- the fault is the first one, at the next moment, over an assignment that agrees with S before m; and nothing meets the model up to it
 pub record GivesFault (s : Setting) (S : Assignment) (m : ℕ) (fault : Fault) : Type 0 where
   pub moment : ℕ
-  pub next : (m ≤ moment) × (moment ≤ m + 1)
+  pub next : IsNext m moment
   pub found : moment_at s.instants moment ≡ Some fault.moment
   pub after : Assignment
   pub agrees : AgreeBefore S after m

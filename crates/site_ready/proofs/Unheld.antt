@@ -1,5 +1,5 @@
 -- No clock decides of the names in the classes of event conditions.
-use Rattle.std.proofs.Common.{◌≡◌, ◌∙◌, refl, ap, sym, subst, ℕ, ◌⊎◌, inl, inr, ⊎_elim, Bool, true, false, List, ◌++◌, slice_get, Option, Some, None, Contains}
+use Rattle.std.proofs.Common.{◌≡◌, ◌∙◌, refl, ap, sym, subst, ℕ, ◌⊎◌, inl, inr, ⊎_elim, Bool, true, false, List, ◌++◌, slice_get, Option, Some, None, option_map, Contains}
 use Rattle.std.proofs.lemmas.Bool.{false≢true}
 use Rattle.std.proofs.lemmas.Option.{none-some, same_Some}
 use Rattle.std.proofs.lemmas.List.Elements.{Contains-append_left, Contains-append_right}
@@ -10,12 +10,14 @@ use Rattle.flat_model.specs.declared.equation.Equation.{Equation}
 use Rattle.flat_model.specs.declared.equation.Equation.TheVariants.{Valued, Clocks}
 use Rattle.flat_model.specs.declared.model.FlatModel.{FlatModel}
 use Rattle.flat_model.specs.declared.model.FlatName.{FlatName}
+use Rattle.flat_model.specs.declared.model.NameKind.TheVariants as kind
 use Rattle.flat_model.specs.declared.table.Table.{Table}
 use Rattle.flat_model.specs.Models.{IsModel}
 use Rattle.flat_model.specs.Setting.{Setting, class_of_name}
 use Rattle.flat_model.specs.Tables.{IsInput}
 use Rattle.flat_model.specs.Typing.{types_in}
 use Rattle.flat_model.specs.Uses.{SiteReads}
+use Rattle.flat_model.proofs.WholeTypes.{whole_typed}
 use Rattle.mo_connect.specs.Chain.{stay, forward}
 use Rattle.moment_theory.specs.Division.{AreUnheld, StandsBare, Holds}
 use Rattle.clock_terms.specs.declared.data.Cause.TheVariants.{Condition}
@@ -33,7 +35,9 @@ use Rattle.clock_sides.proofs.Counted.{IsHoldOf, bare_shown, held_shown}
 use Rattle.clock_sides.proofs.Facts.{IsVariable, variable_class, number_none, cut_unclocked}
 use Rattle.clock_sides.proofs.Lists.{contains_at, Found, found_left, found_right}
 use Rattle.clock_sides.proofs.Sides.{standing_is, hold_is}
+use Rattle.run_stages.specs.Laws.{IsGrouped, RestOnGroup}
 use Rattle.site_ready.specs.Laws.{IsUnderCondition, IsGroupOf}
+use Rattle.site_ready.proofs.Valued.{HasValues, bare_valued}
 
 module _ (model : FlatModel) (clocking : Clocking) (table : Table) (instants : List Ratio) (is_model : IsModel model) (a : IsAnswered model clocking) where
   abbrev s : Setting
@@ -103,6 +107,25 @@ module _ (model : FlatModel) (clocking : Clocking) (table : Table) (instants : L
         (λ h. inl ((tells y).1 (under y is.node node h.0 is.is_node refl h.1)))
         (λ input. inr input)
         (stands_is is.node node y is.is_node (subst (λ m. Contains node.mentions m) (standing_is y m stands) within))
+
+    pub rest : RestOnGroup s group
+    rest site y condition at bare =
+        let is = each_contained (IsSite model) clocking.sites condition (sites_are model a.terms is_model a.are_terms clocking.sites a.checked.1.sites) (contains_at clocking.sites site condition at) in
+        let node = cut_node is.equation (record { cause = Condition; mentions = (seen condition).mentions }) in
+        let (m, within, stands) = bare_shown y condition bare in
+        ⊎_elim
+        (λ h. inr (grouped y h.0 ((tells y).1 (under y is.node node h.0 is.is_node refl h.1))
+        (bare_valued (types_in model.names) y condition kind.Boolean (whole_typed (types_in model.names) condition kind.Boolean is.type) bare)))
+        (λ input. inl input)
+        (stands_is is.node node y is.is_node (subst (λ m. Contains node.mentions m) (standing_is y m stands) within))
+      where
+        grouped : (y : ℕ) → IsVariable model y → group y ≡ true → HasValues (types_in model.names y) → IsGrouped s group y
+        grouped y v own has = record {
+          own = own;
+          name = v.name;
+          found = v.is_named;
+          valued = λ e. has.2 (same_Some has.0 kind.Clock (sym has.1 ∙ ap (λ o. option_map (λ name. name.kind) o) v.is_named ∙ ap Some e));
+        }
 
     -- the class of the equation in which a name of the group stands bare
     beside_class : (i : ℕ) (equation : Equation) (y j : ℕ) (clock : Option ClockExpr) → IsNode model j (own_node clock i equation) → (h : IsUnderCondition model a.classes y) → StandsBare equation y

@@ -13,6 +13,7 @@ use Rattle.clock_terms.specs.Classing.{class_in}
 use Rattle.clock_terms.specs.Nodes.{Node}
 use Rattle.clock_terms.specs.Said.{IsNode, IsNamed, numbered}
 use Rattle.clock_sides.specs.Laws.{IsAnswered}
+use Rattle.run_stages.specs.Laws.{RestOnGroup}
 
 -- a name that is no input, in the class of an event condition
 pub record IsUnderCondition (model : FlatModel) (classes : Classes) (y : ℕ) : Type 0 where
@@ -34,3 +35,8 @@ abbrev pub UnheldLaw : Type 0
 UnheldLaw = (model : FlatModel) (clocking : Clocking) (table : Table) (instants : List Ratio) → IsModel model → (answered : IsAnswered model clocking)
     → ((group : ℕ → Bool) × IsGroupOf model answered.classes group)
     × ((group : ℕ → Bool) → IsGroupOf model answered.classes group → AreUnheld (record { model = model; clocking = clocking; table = table; instants = instants }) group)
+
+-- and what the condition of any site reads is an input, or a name of this group that has values
+abbrev pub RestsLaw : Type 0
+RestsLaw = (model : FlatModel) (clocking : Clocking) (table : Table) (instants : List Ratio) → IsModel model → (answered : IsAnswered model clocking)
+    → (group : ℕ → Bool) → IsGroupOf model answered.classes group → RestOnGroup (record { model = model; clocking = clocking; table = table; instants = instants }) group

@@ -4,4 +4,4 @@
 
 mod law;
 
-pub use law::unheld_law;
+pub use law::{rests_law, unheld_law};

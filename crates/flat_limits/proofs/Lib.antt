@@ -1,0 +1,14 @@
+pub mod Apart
+pub mod Clauses
+pub mod Fitting
+pub mod Grounds
+pub mod Limits
+pub mod Operations
+pub mod Parts
+pub mod Placings
+pub mod Raws
+pub mod Told
+pub mod Tokens
+pub mod Trees
+pub mod Used
+pub mod Worth

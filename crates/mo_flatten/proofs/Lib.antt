@@ -1,0 +1,7 @@
+pub mod Faulted
+pub mod Limited
+pub mod Modelled
+pub mod Spots
+pub mod Staged
+pub mod Sizing
+pub mod Valued

@@ -1,0 +1,4 @@
+pub mod Ends
+pub mod Models
+pub mod Named
+pub mod Stages
