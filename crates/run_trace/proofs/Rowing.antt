@@ -19,10 +19,9 @@ use Rattle.moment_theory.proofs.Answered.{moment_within}
 use Rattle.run_ahead.specs.declared.answer.Advance.TheVariants as answer
 use Rattle.run_ahead.specs.Ahead.{Running, moment_given, row_given}
 use Rattle.run_ahead.specs.Advances.{HasRow, row_at, given_by}
-use Rattle.run_ahead.specs.Given.{GivesRow, GoesOnFrom}
+use Rattle.run_ahead.specs.Given.{GivesRow, GoesOnFrom, AdvancesAs}
 use Rattle.command_answer.specs.Calls.{Written}
 use Rattle.run_trace.specs.Printing.{written}
-use Rattle.run_trace.specs.Standing.{IsNext, LeavesNoneOut, AdvancesNext}
 use Rattle.run_trace.specs.private.Putting.{IsPut, IsPutRow, HasRowOf, TracesRun}
 use Rattle.run_trace.proofs.Putting.{put_more}
 
@@ -93,30 +92,23 @@ pub record IsRow (after : Setting → Assignment → ℕ → Type 0) (s : Settin
   pub moment_is : moment_given runner ≡ Some (At at)
   pub row_is : row_given runner ≡ Some values
   pub gives : GivesRow after s S m at values
-  pub next : IsNext m gives.moment
 
 row_of : (after : Setting → Assignment → ℕ → Type 0) (s : Setting) (S : Assignment) (m : ℕ) (runner : Running) (moment : Option Moment) (row : Option (List (Option Value))) → moment_given runner ≡ moment → row_given runner ≡ row
-    → (gives : GoesOnFrom after s S m (row_at moment row)) → LeavesNoneOut after s S m (row_at moment row) gives → IsRow after s S m runner
-row_of after s S m runner None row e f gives next = absurd gives
-row_of after s S m runner (Some Initial) row e f gives next = absurd gives
-row_of after s S m runner (Some (At t)) None e f gives next = absurd gives
-row_of after s S m runner (Some (At t)) (Some values) e f gives next = record { at = t; values = values; moment_is = e; row_is = f; gives = gives; next = next }
+    → GoesOnFrom after s S m (row_at moment row) → IsRow after s S m runner
+row_of after s S m runner None row e f gives = absurd gives
+row_of after s S m runner (Some Initial) row e f gives = absurd gives
+row_of after s S m runner (Some (At t)) None e f gives = absurd gives
+row_of after s S m runner (Some (At t)) (Some values) e f gives = record { at = t; values = values; moment_is = e; row_is = f; gives = gives }
 
-pub gave_row : (before after : Setting → Assignment → ℕ → Type 0) (s : Setting) (S : Assignment) (m : ℕ) (runner : Running) → AdvancesNext before after (given_by answer.Row runner) → before s S m → IsRow after s S m runner
-gave_row before after s S m runner advanced stands_for =
-    let (gives, next) = advanced s S m stands_for in row_of after s S m runner (moment_given runner) (row_given runner) refl refl gives next
-
--- an instant is not the first moment
-not_first : (instants : List Ratio) (k : ℕ) (at : Ratio) → moment_at instants k ≡ Some (At at) → 0 < k
-not_first instants zero at is = absurd cc
-not_first instants (suc k) at is = omega arith
+pub gave_row : (before after : Setting → Assignment → ℕ → Type 0) (s : Setting) (S : Assignment) (m : ℕ) (runner : Running) → AdvancesAs before after (given_by answer.Row runner) → before s S m → IsRow after s S m runner
+gave_row before after s S m runner advanced stands_for = row_of after s S m runner (moment_given runner) (row_given runner) refl refl (advanced s S m stands_for)
 
 -- the rows so far, and one more
 pub row_so_far : (before after : Setting → Assignment → ℕ → Type 0) (s : Setting) (whole result : Bool) (old mid new : Option (List ℕ)) (a b c rows : ℕ) (runner : Running) → IsSoFar before s whole (written old mid a b) rows
-    → AdvancesNext before after (given_by answer.Row runner) → IsPutRow whole result runner (written mid new b c) → IsSoFar after s result (written old new a c) (rows + 1)
+    → AdvancesAs before after (given_by answer.Row runner) → IsPutRow whole result runner (written mid new b c) → IsSoFar after s result (written old new a c) (rows + 1)
 row_so_far before after s whole result old mid new a b c rows runner so_far advanced puts =
     let row = gave_row before after s so_far.assignment so_far.before runner advanced so_far.stands_for in
-    by_moment row row.gives.moment refl (not_first s.instants row.gives.moment row.at row.gives.found)
+    by_moment row row.gives.moment refl row.gives.later
   where
     names : List FlatName
     names = s.model.names
@@ -125,7 +117,7 @@ row_so_far before after s whole result old mid new a b c rows runner so_far adva
     by_moment row zero is some = absurd (omega (arith, some))
     by_moment row (suc k) is some =
         let g = row.gives in
-        let place : so_far.before - 1 ≡ k = elim row.next [
+        let place : so_far.before - 1 ≡ k = elim row.gives.next [
           | inl e ↦ omega (arith, e, is)
           | inr e ↦ omega (arith, e.0, e.1, is)
         ] in
@@ -143,7 +135,7 @@ row_so_far before after s whole result old mid new a b c rows runner so_far adva
           stands_for = g.stands_for;
           meets = λ n lt. g.meets n (omega (arith, lt));
           within = omega (arith, inside);
-          many = elim row.next [
+          many = elim row.gives.next [
             | inl e ↦ let many = so_far.many in omega (arith, e, many)
             | inr e ↦ let many = so_far.many in omega (arith, e.0, e.1, many)
           ];
@@ -152,10 +144,10 @@ row_so_far before after s whole result old mid new a b c rows runner so_far adva
         }
 
 -- the run has come to its end
-pub end_reached : (before after : Setting → Assignment → ℕ → Type 0) (s : Setting) (whole : Bool) (out : Written) (rows : ℕ) (runner : Running) → IsSoFar before s whole out rows → AdvancesNext before after (given_by answer.End runner)
+pub end_reached : (before after : Setting → Assignment → ℕ → Type 0) (s : Setting) (whole : Bool) (out : Written) (rows : ℕ) (runner : Running) → IsSoFar before s whole out rows → AdvancesAs before after (given_by answer.End runner)
     → TracesRun s (record { fault = None; whole = whole }) out
 end_reached before after s whole out rows runner so_far advanced =
-    let past : length s.instants < so_far.before = (advanced s so_far.assignment so_far.before so_far.stands_for).0 in
+    let past : length s.instants < so_far.before = advanced s so_far.assignment so_far.before so_far.stands_for in
     let within = so_far.within in (
       trace_text s.model.names so_far.assignment (take (so_far.before - 1) s.instants),
       record {
@@ -169,10 +161,10 @@ end_reached before after s whole out rows runner so_far advanced =
 
 -- the run has come to its first fault
 pub fault_reached : (before after : Setting → Assignment → ℕ → Type 0) (s : Setting) (whole : Bool) (out : Written) (rows : ℕ) (runner : Running) (fault : Fault) → IsSoFar before s whole out rows
-    → AdvancesNext before after (given_by (answer.Fault fault) runner) → TracesRun s (record { fault = Some fault; whole = whole }) out
+    → AdvancesAs before after (given_by (answer.Fault fault) runner) → TracesRun s (record { fault = Some fault; whole = whole }) out
 fault_reached before after s whole out rows runner fault so_far advanced =
-    let (g, next) = advanced s so_far.assignment so_far.before so_far.stands_for in
-    let place : so_far.before - 1 ≡ g.moment - 1 = elim next [
+    let g = advanced s so_far.assignment so_far.before so_far.stands_for in
+    let place : so_far.before - 1 ≡ g.moment - 1 = elim g.next [
       | inl e ↦ omega (arith, e)
       | inr e ↦ omega (arith, e.0, e.1)
     ] in (
@@ -193,12 +185,12 @@ fault_reached before after s whole out rows runner fault so_far advanced =
 
 module _ (before after : Setting → Assignment → ℕ → Type 0) (model : FlatModel) where
   -- a row that was given is there
-  pub row_there : (s : Setting) (S : Assignment) (m : ℕ) (runner : Running) → AdvancesNext before after (given_by answer.Row runner) → before s S m → HasRow runner
+  pub row_there : (s : Setting) (S : Assignment) (m : ℕ) (runner : Running) → AdvancesAs before after (given_by answer.Row runner) → before s S m → HasRow runner
   row_there s S m runner advanced stands_for =
       let row = gave_row before after s S m runner advanced stands_for in record { at = row.at; values = row.values; moment_is = row.moment_is; row_is = row.row_is }
 
   -- and has a value for each column
-  pub row_long : (s : Setting) (S : Assignment) (m : ℕ) (runner : Running) → AdvancesNext before after (given_by answer.Row runner) → before s S m → s.model ≡ model → HasRowOf runner (length (columns_of model.names))
+  pub row_long : (s : Setting) (S : Assignment) (m : ℕ) (runner : Running) → AdvancesAs before after (given_by answer.Row runner) → before s S m → s.model ≡ model → HasRowOf runner (length (columns_of model.names))
   row_long s S m runner advanced stands_for is values at =
       let row = gave_row before after s S m runner advanced stands_for in
       let same : row.values ≡ values = same_row row.values values (sym row.row_is ∙ at) in

@@ -5,7 +5,8 @@ ghost use Rattle.flat_model.specs.declared.clock.Moment.TheVariants.{At};
 ghost use Rattle.flat_model.specs.declared.model.FlatModel.{FlatModel};
 ghost use Rattle.run_ahead.specs.Ahead.{Running, moment_given, row_given};
 ghost use Rattle.run_ahead.specs.Advances.{HasRow, given_by};
-ghost use Rattle.run_trace.specs.Standing.{AdvancesNext, StandsForSome};
+ghost use Rattle.run_ahead.specs.Given.{AdvancesAs};
+ghost use Rattle.run_trace.specs.Standing.{StandsForSome};
 
 use flat_model::FlatModel;
 use outside_io::Gate;
@@ -30,7 +31,7 @@ pub trait Rows {
     /// Gives the row of the next instant, the first fault, or the end. It takes no memory.
     fn advance<R: Threads + Sync, G: Gate + Sync>(&mut self, rt: &R, gate: &G) -> Advance
         requires { StandsForSome (stands self.old) }
-        ensures { AdvancesNext (stands self.old) (stands self.new) (given_by result (seen self.new)) };
+        ensures { AdvancesAs (stands self.old) (stands self.new) (given_by result (seen self.new)) };
 
     /// The instant of the row given last, in seconds.
     fn instant(&self) -> Ratio
