@@ -1,18 +1,24 @@
 -- The stages of the flat model of a command, for the chain that joins the functions of this crate.
-use Rattle.std.proofs.Common.{sym, subst, ◌∙◌, inl, inr, ℕ, List, Ok, Err}
+use Rattle.std.proofs.Common.{sym, subst, ◌∙◌, inl, inr, ℕ, List, Option, Result, Ok, Err}
 use Rattle.command_words.specs.Choice.{Choice}
 use Rattle.mo_parser.specs.declared.tree.Tree.{Tree}
 use Rattle.flat_model.specs.declared.model.FlatModel.{FlatModel}
 use Rattle.flat_model.specs.declared.raw.RawModel.{RawModel}
 use Rattle.flat_model.specs.declared.place.Place.TheVariants as place
+use Rattle.class_scopes.specs.Reached.{chosen_by}
 use Rattle.flat_answer.specs.declared.end.FlattenEnd.{FlattenEnd}
+use Rattle.flat_answer.specs.Answers as flattening
 use Rattle.command_answer.specs.Actions.{model_of, model_limit}
-use Rattle.command_answer.specs.Layers.{few, flattened, typed, Flattens}
+use Rattle.command_answer.specs.Layers.{few, flattened, typed}
 use Rattle.command_answer.specs.Stages.{Stage, ◌>>=◌, always, layer}
 use Rattle.command_stages.specs.declared.end.End.{End}
 use Rattle.command_stages.specs.Ends.{Halts, of_names}
 use Rattle.command_stages.specs.Segments.{file_of, tree_of}
 use Rattle.command_stages.proofs.Halting.{names_told}
+
+-- what is answered of the chosen class of a tree
+abbrev pub Flattens : List ℕ → Tree → Option (List ℕ) → Result RawModel FlattenEnd → Type 0
+Flattens text tree class result = flattening.Answers text tree.classes (chosen_by text tree.classes class) result
 
 module _ (reads : List ℕ → Stage (List ℕ)) (c : Choice) where
   -- the file ends the command
