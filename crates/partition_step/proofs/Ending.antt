@@ -1,7 +1,7 @@
 -- What a step leaves.
-use Rattle.std.proofs.Common.{◌≡◌, ◌≢◌, refl, ap, ap₂, ◌∙◌, sym, subst, ℕ, zero, suc, ◌+◌, ◌<◌, Bool, true, false, if◌then◌else◌, List, length, map, Option, Some, None, slice_get, unwrap_or, Contains, arith}
+use Rattle.std.proofs.Common.{◌≡◌, ◌≢◌, refl, ap, ap₂, ◌∙◌, sym, subst, ℕ, suc, Bool, true, false, if◌then◌else◌, List, length, Option, Some, None, slice_get, unwrap_or, arith}
 use Rattle.std.specs.Prelude.{option_map}
-use Rattle.std.proofs.lemmas.Option.{none-some, same_Some, slice_get-map, slice_get_within, slice_get_past}
+use Rattle.std.proofs.lemmas.Option.{same_Some, slice_get-map, slice_get_within, slice_get_past}
 use Rattle.sync_values.specs.declared.value.Value.{Value}
 use Rattle.rational_time.specs.declared.ratio.Ratio.{Ratio}
 use Rattle.flat_model.specs.declared.clock.Moment.{Moment}
@@ -16,7 +16,6 @@ use Rattle.flat_model.specs.Setting.{Setting, start_of, class_ticks, name_ticks}
 use Rattle.flat_model.specs.Uses.{Use}
 use Rattle.moment_theory.specs.Free.{IsReachedBy}
 use Rattle.moment_theory.specs.Taken.{AreTaken}
-use Rattle.moment_theory.proofs.Facts.{UseFacts}
 use Rattle.first_failure.specs.declared.least.EquationFailing.{EquationFailing}
 use Rattle.first_failure.specs.Turns.{FailsAmong, IsLeast}
 use Rattle.tree_step.specs.declared.cell.Cell.{Cell}
@@ -36,7 +35,7 @@ use Rattle.partition_step.specs.private.Stepping.{told_at, begun_at, kept_cell, 
 use Rattle.partition_step.specs.private.Writing.{IsWritten}
 use Rattle.partition_step.proofs.Intervals.{rests_at_initial}
 use Rattle.partition_step.proofs.Lists.{lists_same, none_past, some_at, at_map, map_kept, written_none, written_at, written_back}
-use Rattle.partition_step.proofs.Placing.{own_there, IsThere, there, at_among, own_among, own_reached, entry_of_reached, CellOf, entry_of_cell}
+use Rattle.partition_step.proofs.Placing.{own_there, there, at_among, own_among, own_reached, entry_of_reached, CellOf, entry_of_cell}
 use Rattle.partition_step.proofs.Reaching.{use_facts}
 use Rattle.partition_step.proofs.Resting.{keeps_rest, keeps_tick, tick_rests}
 use Rattle.partition_step.proofs.Starting.{sight, clock_told, old_cell, new_cell, new_there}

@@ -1,21 +1,19 @@
 -- A step has one answer.
-use Rattle.std.proofs.Common.{◌≡◌, refl, ap, sym, subst, ◌∙◌, ℕ, List, [], ◌∷◌, Option, Some, None, inl, inr}
+use Rattle.std.proofs.Common.{◌≡◌, refl, ap, sym, subst, ◌∙◌, ℕ, List, [], ◌∷◌, inl, inr}
 use Rattle.std.proofs.Math.Path.{fun_ext}
 use Rattle.std.proofs.lemmas.Option.{same_Some, none-some}
 use Rattle.sync_values.specs.declared.value.Value.{Value}
 use Rattle.flat_model.specs.Assignment.{Assignment, IsOfKind}
 use Rattle.flat_model.specs.Given.{Row, with_row, Solves}
 use Rattle.flat_model.specs.Setting.{Setting}
-use Rattle.flat_model.specs.Uses.{Use, AreUses}
-use Rattle.moment_theory.specs.Free.{IsReachedBy}
+use Rattle.flat_model.specs.Uses.{Use}
 use Rattle.moment_theory.specs.Taken.{put, Gives, IsTaken, AreTaken}
-use Rattle.first_failure.specs.declared.least.EquationFailing.{EquationFailing}
 use Rattle.first_failure.specs.Turns.{FailsAmong, IsLeast}
 use Rattle.first_failure.proofs.Single.{one_told}
 use Rattle.partition_step.specs.declared.part.Outcome.{Outcome}
 use Rattle.partition_step.specs.declared.part.Outcome.TheVariants.{Stepped, Failed}
 use Rattle.partition_step.specs.Laws.{OneStepLaw}
-use Rattle.partition_step.specs.Steps.{failing_in, HasStepped}
+use Rattle.partition_step.specs.Steps.{failing_in}
 
 module _ (s : Setting) (S : Assignment) (m : ℕ) where
   gives_once : (row : Row) (entry : Use) (v w : Value) → Gives s S m row entry v → Gives s S m row entry w → w ≡ v

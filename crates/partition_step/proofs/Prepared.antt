@@ -1,9 +1,7 @@
 -- Uses that are laid out are a part that stands before the first moment.
-use Rattle.std.proofs.Common.{◌≡◌, ◌≢◌, refl, ap, ◌∙◌, sym, subst, ℕ, zero, suc, ◌+◌, ◌<◌, ◌≤◌, List, [], ◌∷◌, ◌++◌, length, map, Option, Some, None, slice_get, slice_set, unwrap_or, Contains, length-set, ◌⊎◌, inl, inr, arith}
+use Rattle.std.proofs.Common.{◌≡◌, refl, ap, ◌∙◌, sym, subst, ℕ, zero, suc, ◌<◌, List, [], ◌∷◌, ◌++◌, length, map, Option, Some, None, slice_get, unwrap_or, Contains, inl, inr, arith}
 use Rattle.std.specs.Prelude.{option_map}
-use Rattle.std.proofs.lemmas.Bool.{cases_eq, cases_lt}
 use Rattle.std.proofs.lemmas.Option.{none-some, same_Some, slice_get-map, slice_get_within, slice_get_past}
-use Rattle.flat_model.specs.declared.clock.Clock.{Clock}
 use Rattle.flat_model.specs.declared.clock.Clock.TheVariants.{Event}
 use Rattle.flat_model.specs.declared.clock.Clocking.{Clocking}
 use Rattle.flat_model.specs.declared.equation.Equation.{Equation}
@@ -11,7 +9,7 @@ use Rattle.flat_model.specs.declared.model.FlatModel.{FlatModel}
 use Rattle.flat_model.specs.declared.model.FlatName.{FlatName}
 use Rattle.flat_model.specs.Assignment.{Assignment}
 use Rattle.flat_model.specs.Runnable.{IsClassBelow}
-use Rattle.flat_model.specs.Setting.{Setting, flattened, class_of_name, class_of_equation, clock_of, partition_of, start_in, start_of}
+use Rattle.flat_model.specs.Setting.{Setting, flattened, class_of_name, class_of_equation, clock_of, partition_of, start_of}
 use Rattle.flat_model.specs.Uses as flat
 use Rattle.eq_orient.specs.Spine.{IsSpineOf}
 use Rattle.eq_order.specs.declared.uses.Use.{Use}
@@ -29,10 +27,10 @@ use Rattle.tree_step.specs.Starts.{IsAmong}
 use Rattle.partition_step.specs.declared.part.ClassKept.{ClassKept}
 use Rattle.partition_step.specs.declared.part.Part.{Part}
 use Rattle.partition_step.specs.Parts.{IsPiece, IsLaid, IsPartOf, KeepsTick, StandsFor, names_of, numbers_of, clocks_of}
-use Rattle.partition_step.specs.Prepared.{IsPreparedFrom, IsPrepared}
-use Rattle.partition_step.specs.private.Laying.{class_in, clock_in, new_class, entry_of, new_cell, AreLaidOut, AreOnce}
-use Rattle.partition_step.proofs.Lists.{lists_same, some_at, none_past, map_at, at_map, set_same, set_other}
-use Rattle.partition_step.proofs.Placing.{IsThere, there, entry_at}
+use Rattle.partition_step.specs.Prepared.{IsPrepared}
+use Rattle.partition_step.specs.private.Laying.{class_in, clock_in, new_class, new_cell, AreLaidOut, AreOnce}
+use Rattle.partition_step.proofs.Lists.{lists_same, some_at, none_past, map_at, at_map}
+use Rattle.partition_step.proofs.Placing.{there, entry_at}
 use Rattle.partition_step.proofs.Reaching.{use_facts, class_is}
 
 -- ---- a free order reaches no name twice

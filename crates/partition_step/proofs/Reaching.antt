@@ -1,7 +1,7 @@
 -- The names of a base partition are reached by its uses.
-use Rattle.std.proofs.Common.{◌≡◌, ◌≢◌, refl, ap, ◌∙◌, sym, subst, ℕ, ◌+◌, ◌≤◌, ◌<◌, Bool, true, false, List, ◌++◌, Option, Some, None, slice_get, Contains, ◌⊎◌, inl, inr, arith}
+use Rattle.std.proofs.Common.{◌≡◌, ◌≢◌, refl, ap, ◌∙◌, sym, subst, ℕ, ◌<◌, Bool, true, false, List, ◌++◌, Option, Some, None, slice_get, Contains, ◌⊎◌, inl, inr}
 use Rattle.std.specs.Prelude.{option_map}
-use Rattle.std.proofs.lemmas.Option.{none-some, same_Some}
+use Rattle.std.proofs.lemmas.Option.{none-some}
 use Rattle.flat_model.specs.declared.equation.Equation.TheVariants.{Valued}
 use Rattle.flat_model.specs.declared.expression.Expr.{Expr}
 use Rattle.flat_model.specs.declared.model.FlatName.{FlatName}
@@ -9,10 +9,10 @@ use Rattle.flat_model.specs.declared.model.NameKind.{NameKind}
 use Rattle.flat_model.specs.declared.model.NameKind.TheVariants as kind
 use Rattle.flat_model.specs.Asks.{OfPrevious, asked}
 use Rattle.flat_model.specs.Setting.{Setting, class_of_name, class_of_equation, partition_of}
-use Rattle.flat_model.specs.Typing.{Types, types_in, valued_type}
+use Rattle.flat_model.specs.Typing.{types_in, valued_type}
 use Rattle.flat_model.specs.Uses.{Use}
 use Rattle.flat_model.specs.WholeTyping.{IsTyped}
-use Rattle.moment_theory.specs.Free.{IsReachedBy, IsOrdered}
+use Rattle.moment_theory.specs.Free.{IsReachedBy}
 use Rattle.moment_theory.proofs.Facts.{Facts, UseFacts, facts_of_use, class_of_use}
 use Rattle.moment_theory.proofs.FromRunnable.{all_at, facts_of}
 use Rattle.moment_theory.proofs.Meeting.{IsValued, AreWhole}

@@ -1,5 +1,5 @@
 -- What is kept from one moment to the next.
-use Rattle.std.proofs.Common.{◌≡◌, refl, ap, ◌∙◌, sym, subst, ℕ, zero, suc, ◌<◌, ◌≤◌, Bool, true, false, if◌then◌else◌, List, Option, Some, None, slice_get, arith}
+use Rattle.std.proofs.Common.{◌≡◌, refl, ap, ◌∙◌, sym, subst, ℕ, suc, ◌<◌, true, false, if◌then◌else◌, List, Option, Some, None, arith}
 use Rattle.sync_values.specs.declared.value.Value.{Value}
 use Rattle.flat_model.specs.Assignment.{Assignment, tick_before, value_at_tick, previous_value}
 use Rattle.flat_model.specs.Setting.{Setting, class_of_name, start_of, class_ticks, name_ticks}
@@ -8,14 +8,14 @@ use Rattle.flat_model.proofs.Agreement.{class_ticks_same, tick_before_same, prev
 use Rattle.moment_theory.specs.Free.{IsReachedBy}
 use Rattle.moment_theory.specs.Going.{AgreeBefore}
 use Rattle.tree_step.specs.declared.cell.Cell.{Cell}
-use Rattle.tree_step.specs.declared.taking.Entry.{Entry}
-use Rattle.tree_step.specs.Starts.{KeepsLast}
+use Rattle.tree_step.specs.Cells.{cell_in}
+use Rattle.tree_step.specs.Frames.{now_in}
 use Rattle.partition_step.specs.declared.part.ClassKept.{ClassKept}
 use Rattle.partition_step.specs.declared.part.Part.{Part}
-use Rattle.partition_step.specs.Laws.{RestsLaw, PlacesLaw}
-use Rattle.partition_step.specs.Parts.{IsLaid, IsPartOf, IsTickedAt, KeepsTick, StandsFor, names_of, numbers_of, clocks_of}
+use Rattle.partition_step.specs.Laws.{RestsLaw, PlacesLaw, OthersLaw}
+use Rattle.partition_step.specs.Parts.{IsPartOf, IsTickedAt, KeepsTick}
 use Rattle.partition_step.proofs.Lists.{map_at}
-use Rattle.partition_step.proofs.Placing.{at_among, own_reached, class_of, entry_of_cell}
+use Rattle.partition_step.proofs.Placing.{there, at_among, own_reached, class_of, entry_of_cell}
 
 module _ (s : Setting) (S T : Assignment) (m : ℕ) (agrees : AgreeBefore S T m) where
   ticks_same : (class : Option ℕ) (j : ℕ) → j < m → class_ticks s S class j ≡ class_ticks s T class j
@@ -70,3 +70,18 @@ places s own old new part of same =
       };
       room = of.room;
     }
+
+-- a name that is not reached has no cell
+module _ (s : Setting) (own : List Use) (at : List ℕ) (part : Part) (of : IsPartOf s own at part) (x : ℕ) (other : IsReachedBy x own → ⊥) where
+  by_cell : (o : Option Cell) → cell_in at part.cells.items x ≡ o → now_in (cell_in at part.cells.items x) ≡ None
+  by_cell None none = ap now_in none
+  by_cell (Some cell) some =
+      let is = there at part.cells.items x cell some in
+      let (e, entry_found, named) = entry_of_cell s own at part.entries part.cells.items part.classes.items of.laid is.place cell is.found in
+      absurd (other (subst (λ y. IsReachedBy y own) (sym named ∙ is.named) (own_reached s own at part.entries part.cells.items part.classes.items of.laid e (at_among part.entries is.place e entry_found))))
+
+  no_other : now_in (cell_in at part.cells.items x) ≡ None
+  no_other = by_cell (cell_in at part.cells.items x) refl
+
+pub others : OthersLaw
+others s own at part of x other = no_other s own at part of x other

@@ -1,35 +1,29 @@
 -- What is written at a step is a start of the uses.
-use Rattle.std.proofs.Common.{◌≡◌, ◌≢◌, refl, ap, ◌∙◌, sym, subst, ℕ, zero, suc, ◌+◌, ◌<◌, Bool, true, false, List, ◌++◌, length, Option, Some, None, is_none, slice_get, Contains, ◌⊎◌, inl, inr, arith}
-use Rattle.std.proofs.lemmas.Bool.{false≢true}
+use Rattle.std.proofs.Common.{◌≡◌, refl, ap, ◌∙◌, sym, subst, ℕ, zero, suc, ◌+◌, ◌<◌, Bool, true, false, List, ◌++◌, Option, Some, None, is_none, slice_get, ◌⊎◌, inl, inr, arith}
 use Rattle.std.proofs.lemmas.Option.{none-some, same_Some, slice_get_within}
-use Rattle.sync_values.specs.declared.value.Value.{Value}
 use Rattle.sync_values.specs.declared.value.Value.TheVariants as value
 use Rattle.flat_model.specs.declared.clock.Clock.{Clock}
 use Rattle.flat_model.specs.declared.clock.Clock.TheVariants.{Periodic, Event}
-use Rattle.flat_model.specs.declared.clock.Moment.{Moment}
-use Rattle.flat_model.specs.declared.clock.Moment.TheVariants.{At}
 use Rattle.flat_model.specs.declared.equation.Equation.{Equation}
 use Rattle.flat_model.specs.declared.equation.Equation.TheVariants.{Valued, Clocks}
 use Rattle.flat_model.specs.declared.expression.Expr.{Expr}
 use Rattle.flat_model.specs.Answers.{truth_in}
 use Rattle.flat_model.specs.Asks.{AsksFor, OfNow, OfLast, OfPrevious}
 use Rattle.flat_model.specs.Assignment.{Assignment, tick_before, previous_value}
-use Rattle.flat_model.specs.Given.{Row, with_row, IsKnown, IsKnownOf}
+use Rattle.flat_model.specs.Given.{Row, with_row, IsKnownOf}
 use Rattle.flat_model.specs.Intervals.{IsMeasurable}
-use Rattle.flat_model.specs.Occurrences.{bare_count, held_count, converted_count}
+use Rattle.flat_model.specs.Occurrences.{held_count, converted_count}
 use Rattle.flat_model.specs.Operators.{Answer, Is, Fails, Absent}
 use Rattle.flat_model.specs.Runnable.{IsSideClocked}
 use Rattle.flat_model.specs.Setting.{Setting, flattened, class_of_name, class_of_equation, clock_of, partition_of, site_answer, start_of, class_ticks, name_ticks, interval_at}
-use Rattle.flat_model.specs.Uses.{Use, SiteReads}
+use Rattle.flat_model.specs.Uses.{Use}
 use Rattle.flat_model.proofs.Links.{asked_bare, asked_last}
 use Rattle.flat_model.proofs.Sites.{not_yet}
-use Rattle.moment_theory.specs.Free.{IsReachedBy, AsksClass, AsksLastIn, IsOrdered}
+use Rattle.moment_theory.specs.Free.{IsReachedBy, AsksLastIn, IsOrdered}
 use Rattle.moment_theory.specs.Sound.{IsClear}
 use Rattle.moment_theory.proofs.Meeting.{IsValued, IsSideClassed}
 use Rattle.moment_theory.proofs.Unknown.{known_where_ticks}
 use Rattle.tree_step.specs.declared.cell.Cell.{Cell}
-use Rattle.tree_step.specs.declared.cell.Standing.{Standing}
-use Rattle.tree_step.specs.declared.cell.Standing.TheVariants.{Ticks, Rests, Unknown}
 use Rattle.tree_step.specs.declared.frame.ClockNow.{ClockNow}
 use Rattle.tree_step.specs.declared.taking.Entry.{Entry}
 use Rattle.tree_step.specs.Cells.{cell_in}
@@ -38,13 +32,13 @@ use Rattle.tree_step.specs.Starts.{Sight, use_of, uses_of, IsAmong, HasCell, Kee
 use Rattle.partition_step.specs.declared.part.ClassKept.{ClassKept}
 use Rattle.partition_step.specs.declared.part.Part.{Part}
 use Rattle.partition_step.specs.Parts.{IsLaid, KeepsTick, names_of, numbers_of, clocks_of}
-use Rattle.partition_step.specs.Steps.{Telling, IsSampleTold, AreSamplesTold, IsStepStart}
+use Rattle.partition_step.specs.Steps.{Telling, IsSampleTold, IsStepStart}
 use Rattle.partition_step.specs.private.Stepping.{elapsed_at, told_clock, told_from, told_at, standing_by, standing_of, standing_in, standing_at, begun, begun_at}
 use Rattle.partition_step.specs.private.Writing.{IsWritten}
 use Rattle.partition_step.proofs.Intervals.{instant_of, first_is, interval_is, measured_is}
 use Rattle.partition_step.proofs.Lists.{some_at, written_at, written_back}
-use Rattle.partition_step.proofs.Placing.{own_there, IsThere, there, at_among, own_among, own_reached, entry_of_reached, ClassOf, class_of, CellOf, cell_of, entry_of_cell}
-use Rattle.partition_step.proofs.Reaching.{facts, class_is, reached_within, previous_valued}
+use Rattle.partition_step.proofs.Placing.{own_there, there, at_among, own_among, own_reached, entry_of_reached, ClassOf, class_of, CellOf, cell_of, entry_of_cell}
+use Rattle.partition_step.proofs.Reaching.{facts, reached_within, previous_valued}
 use Rattle.partition_step.proofs.Uncut.{previous_uncut}
 
 -- an answer with a truth value is one

@@ -1,8 +1,7 @@
 -- A step, from what each of its calls leaves.
-use Rattle.std.proofs.Common.{◌≡◌, refl, ap, ◌∙◌, sym, subst, ℕ, Bool, List, length, Option, Some, None}
+use Rattle.std.proofs.Common.{◌≡◌, refl, ap, ◌∙◌, sym, subst, ℕ, List, length, Option, Some, None}
 use Rattle.std.specs.Vec.{with_items}
 use Rattle.std.proofs.lemmas.List.{with_items_is}
-use Rattle.flat_model.specs.declared.clock.Moment.{Moment}
 use Rattle.first_failure.specs.declared.least.EquationFailing.{EquationFailing}
 use Rattle.tree_step.specs.declared.cell.Cell.{Cell}
 use Rattle.tree_step.specs.declared.frame.ClockNow.{ClockNow}

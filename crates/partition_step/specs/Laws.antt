@@ -1,5 +1,5 @@
 -- Laws of parts. This project's own.
-use Rattle.std.specs.Prelude.{◌≡◌, ℕ, suc, false, List, Some, slice_get}
+use Rattle.std.specs.Prelude.{◌≡◌, ℕ, suc, false, List, Some, None, slice_get}
 use Rattle.flat_model.specs.Assignment.{Assignment}
 use Rattle.flat_model.specs.Given.{Row}
 use Rattle.flat_model.specs.Setting.{Setting, class_ticks}
@@ -22,6 +22,10 @@ RestsLaw = (s : Setting) (own : List Use) (places : List ℕ) (part : Part) → 
 -- a part stays that of its uses where the places of their names stay
 abbrev pub PlacesLaw : Type 0
 PlacesLaw = (s : Setting) (own : List Use) (old new : List ℕ) (part : Part) → IsPartOf s own old part → ((x : ℕ) → IsReachedBy x own → slice_get new x ≡ slice_get old x) → IsPartOf s own new part
+
+-- a part has no value of a name that its uses do not reach
+abbrev pub OthersLaw : Type 0
+OthersLaw = (s : Setting) (own : List Use) (places : List ℕ) (part : Part) → IsPartOf s own places part → (x : ℕ) → (IsReachedBy x own → ⊥) → now_in (cell_in places part.cells.items x) ≡ None
 
 -- a step from a row has one outcome, and leaves one value of each name
 abbrev pub OneStepLaw : Type 0

@@ -1,4 +1,4 @@
-ghost use Rattle.partition_step.specs.Laws.{RestsLaw, PlacesLaw, OneStepLaw};
+ghost use Rattle.partition_step.specs.Laws.{RestsLaw, PlacesLaw, OthersLaw, OneStepLaw};
 
 /// A part none of whose classes ticks at a moment stands before the next one without a step.
 pub fn rests_law()
@@ -8,6 +8,11 @@ pub fn rests_law()
 /// A part stays that of its uses where the places of their names stay.
 pub fn places_law()
     ensures { PlacesLaw }
+{}
+
+/// A part has no value of a name that its uses do not reach.
+pub fn others_law()
+    ensures { OthersLaw }
 {}
 
 /// A step from a row has one outcome, and leaves one value of each name.

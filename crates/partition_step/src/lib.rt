@@ -9,5 +9,5 @@ mod preparing;
 mod stepping;
 mod telling;
 
-pub use law::{one_step_law, places_law, rests_law};
+pub use law::{one_step_law, others_law, places_law, rests_law};
 pub use part::{ClassKept, Outcome, Part};

@@ -12,10 +12,10 @@ use tick_plan::Ticking;
 use tree_step::{Scene, cell_at, take_uses};
 
 impl Part {
-    /// Takes the uses of the part at a moment: each counts where its class ticks and all that it reads now has values. Of
-    /// the sites it is told what their conditions give, and `left` has the values at the moment before. It takes no memory.
-    ///
-    /// The equations of the partition may fail; then the part is not for a further moment.
+    /// Takes the uses of the part at a moment: each counts where its class ticks and all that it reads now has values. The
+    /// answer is the first equation in flat order that fails, and then the part is for no further moment. `answers` has for
+    /// each site the truth value of its condition, where that has one, and `left` the values at the moment before. At a
+    /// moment at which none of its classes ticks a part need not be stepped. It takes no memory.
     ///
     /// Source: MLS 3.6, chapter 16, "Clocked Equations", and for what is found past a failure this project's own.
     pub fn step<T: Ticking>(

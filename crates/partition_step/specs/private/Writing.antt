@@ -1,5 +1,5 @@
 -- Lists that are written place by place.
-use Rattle.std.specs.Prelude.{◌≡◌, ℕ, List, length, Option, Some, None, slice_get, option_map}
+use Rattle.std.specs.Prelude.{◌≡◌, ℕ, List, length, slice_get, option_map}
 
 -- each element is what is written over the one that was there
 pub record IsWritten {A : Type 0} (write : ℕ → A → A) (old new : List A) : Type 0 where

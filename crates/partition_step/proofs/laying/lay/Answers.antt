@@ -1,4 +1,4 @@
-use Rattle.std.proofs.Common.{rules, arith}
+use Rattle.std.proofs.Common.{arith}
 use Rattle.partition_step.proofs.Laid.{lay_turn}
 use Rattle.partition_step.proofs.laying.lay.Goals as goal
 

@@ -1,4 +1,4 @@
-use Rattle.std.proofs.Common.{rules, arith, ◌≤◌, ◌<◌, length}
+use Rattle.std.proofs.Common.{rules, arith, ◌≤◌, length}
 use Rattle.std.proofs.lemmas.Option.{slice_get_within}
 use Rattle.partition_step.proofs.Laid.{placed_turn}
 use Rattle.partition_step.proofs.laying.place.Goals as goal
