@@ -1,11 +1,13 @@
 -- Uses divided one by one.
 use Rattle.std.proofs.Common.{◌≡◌, refl, ap, ap₂, ◌∙◌, sym, ℕ, suc, ◌+◌, ◌<◌, ◌≤◌, Bool, true, false, List, [], ◌∷◌, ◌++◌, length, map, drop, get_or, append-nil, append_assoc, if◌then◌else◌, ◌⊎◌, inl, inr, arith}
-use Rattle.std.proofs.lemmas.List.{map-append, drop_more, drop_all}
+use Rattle.std.proofs.lemmas.Bool.{cases_lt}
+use Rattle.std.proofs.lemmas.List.{map-append, drop_more, drop_all, get_or_past}
 use Rattle.eq_order.specs.declared.uses.Use.{Use}
 use Rattle.tree_step.specs.declared.taking.Entry.{Entry}
 use Rattle.moment_order.specs.declared.stage.Stage.{Stage}
 use Rattle.moment_order.specs.Stages.{is_stage}
-use Rattle.steps_ready.specs.private.Division.{entry_of, just, taken_at}
+use Rattle.moment_order.specs.declared.stage.Stage.TheVariants.{Partition}
+use Rattle.steps_ready.specs.private.Division.{entry_of, just, taken_at, part_of, AreDivided}
 
 more : (stage own : Stage) (stages : List Stage) (taken : Use) (order : List Use) → taken_at stage (own ∷ stages) (taken ∷ order) ≡ just stage own taken ++ taken_at stage stages order
 more stage own stages taken order = by_test (is_stage stage own)
@@ -66,3 +68,10 @@ taken_few stage (own ∷ stages) (taken ∷ order) = by_test (taken_few stage st
     by_test : length (taken_at stage stages order) ≤ length order → (b : Bool) → length (if b then (taken ∷ taken_at stage stages order) else taken_at stage stages order) ≤ suc (length order)
     by_test rest true = omega (arith, rest)
     by_test rest false = omega (arith, rest)
+
+pub parts_few : (stages : List Stage) (order : List Use) (count : ℕ) (pure waiting : List Entry) (parts : List (List Use)) → AreDivided stages order count pure waiting parts
+    → (bound : ℕ) → length order < bound → (k : ℕ) → length (part_of parts k) < bound
+parts_few stages order count pure waiting parts divided bound few k = elim (cases_lt k count) [
+  | inl within ↦ let is = ap length (divided.parts_are k within) in let less = taken_few (Partition k) stages order in omega (arith, is, less, few)
+  | inr past ↦ let is = ap length (get_or_past parts k [] (let size = divided.size in omega (arith, size, past))) in omega (arith, is, few)
+]

@@ -19,7 +19,7 @@ append_cases (z ∷ xs) y zero x found = inl found
 append_cases (z ∷ xs) y (suc j) x found = elim (append_cases xs y j x found) [ inl here ↦ inl here | inr last ↦ inr (ap suc last.0, last.1) ]
 
 pub ready_first : (model : FlatModel) (clocking : Clocking) (parts : List (List Use)) (places : List ℕ) → AreReady model clocking parts places []
-ready_first model clocking parts places s are k own slot own_found found = absurd (none-some slot found)
+ready_first model clocking parts places_of s are k own slot own_found found = absurd (none-some slot found)
 
 -- one part more: those before it stay, since its names are none of theirs
 pub ready_next : (model : FlatModel) (clocking : Clocking) (parts : List (List Use)) (old new : List ℕ) (slots : List (Slot Piece)) (own : List Use) (slot : Slot Piece)
