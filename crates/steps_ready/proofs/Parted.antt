@@ -1,5 +1,5 @@
 -- The parts of base partitions, prepared one by one.
-use Rattle.std.proofs.Common.{◌≡◌, refl, ap, ◌∙◌, sym, subst, ℕ, zero, suc, ◌<◌, ◌≤◌, List, [], ◌∷◌, ◌++◌, length, map, Some, slice_get, ◌⊎◌, inl, inr, arith}
+use Rattle.std.proofs.Common.{◌≡◌, refl, ap, ◌∙◌, sym, subst, ℕ, zero, suc, ◌≤◌, List, [], ◌∷◌, ◌++◌, length, map, Some, slice_get, ◌⊎◌, inl, inr, arith}
 use Rattle.std.proofs.lemmas.Option.{none-some, same_Some, slice_get_within}
 use Rattle.flat_model.specs.declared.clock.Clocking.{Clocking}
 use Rattle.flat_model.specs.declared.model.FlatModel.{FlatModel}
@@ -10,7 +10,7 @@ use Rattle.fork_steps.specs.declared.slot.Slot.{Slot}
 use Rattle.moment_steps.specs.declared.piece.Piece.{Piece}
 use Rattle.partition_step.specs.Prepared.{IsPrepared}
 use Rattle.partition_step.proofs.Resting.{places}
-use Rattle.steps_ready.specs.private.Parting.{AreParts, IsReadySlot, AreReady}
+use Rattle.steps_ready.specs.private.Parting.{IsReadySlot, AreReady}
 
 append_cases : {A : Type 0} (xs : List A) (y : A) (j : ℕ) (x : A) → slice_get (xs ++ y ∷ []) j ≡ Some x → (slice_get xs j ≡ Some x) ⊎ ((j ≡ length xs) × (x ≡ y))
 append_cases [] y zero x found = inr (refl, sym (same_Some y x found))

@@ -1,5 +1,5 @@
 -- The uses of a model by their stages, as the laws of a run have them.
-use Rattle.std.proofs.Common.{◌≡◌, ◌≢◌, refl, ap, ap₂, ◌∙◌, sym, subst, ℕ, zero, suc, ◌+◌, ◌<◌, ◌≤◌, ◌==◌, eqb-true, Bool, true, false, List, [], ◌∷◌, length, map, Contains, Option, Some, None, slice_get, if◌then◌else◌, Ok, inl, inr, arith}
+use Rattle.std.proofs.Common.{◌≡◌, refl, ap, ◌∙◌, sym, subst, ℕ, zero, suc, ◌+◌, ◌<◌, eqb-true, Bool, true, false, List, [], ◌∷◌, length, map, Option, Some, None, slice_get, if◌then◌else◌, inl, inr, arith}
 use Rattle.std.proofs.lemmas.Bool.{false≢true}
 use Rattle.std.proofs.lemmas.Option.{none-some}
 use Rattle.std.specs.Prelude.{All}
@@ -15,7 +15,7 @@ use Rattle.moment_theory.proofs.Members.{IsMember}
 use Rattle.tree_step.specs.declared.taking.Entry.{Entry}
 use Rattle.tree_step.specs.Starts.{uses_of, IsAmong}
 use Rattle.moment_order.specs.declared.stage.Stage.{Stage}
-use Rattle.moment_order.specs.declared.stage.Stage.TheVariants.{Pure, Partition, Waiting}
+use Rattle.moment_order.specs.declared.stage.Stage.TheVariants.{Partition, Waiting}
 use Rattle.moment_order.specs.Stages.{stage_in, is_stage, uses_at, parts_at}
 use Rattle.moment_steps.specs.Settled.{IsPlainEntry}
 use Rattle.steps_ready.specs.private.Division.{entry_of, taken_at}

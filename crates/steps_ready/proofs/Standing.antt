@@ -1,8 +1,8 @@
 -- What is prepared stands before the first moment.
-use Rattle.std.proofs.Common.{◌≡◌, ◌≢◌, refl, ap, ◌∙◌, sym, subst, ℕ, suc, ◌<◌, ◌≤◌, ◌^◌, Bool, List, length, map, Contains, Option, Some, None, slice_get, get_or, Ok, ◌⊎◌, inl, inr, arith}
+use Rattle.std.proofs.Common.{◌≡◌, ap, ◌∙◌, sym, subst, ℕ, ◌<◌, ◌^◌, Bool, true, List, length, map, Contains, Some, None, slice_get, inl, inr, arith}
 use Rattle.std.proofs.lemmas.Bool.{cases_lt}
 use Rattle.std.proofs.lemmas.List.{length-map}
-use Rattle.std.proofs.lemmas.Option.{same_Some, slice_get_within, slice_get_past, get_or_from_slice_get, slice_get-get_or}
+use Rattle.std.proofs.lemmas.Option.{same_Some, slice_get_within, slice_get_past, get_or_from_slice_get}
 use Rattle.std.specs.Prelude.{All}
 use Rattle.flat_model.specs.declared.clock.Clocking.{Clocking}
 use Rattle.flat_model.specs.declared.model.FlatModel.{FlatModel}
@@ -12,7 +12,6 @@ use Rattle.flat_model.specs.Setting.{Setting, class_of_equation, partition_of, s
 use Rattle.flat_model.specs.Uses as flat
 use Rattle.eq_order.specs.declared.uses.Use.{Use}
 use Rattle.eq_order.specs.Order.{use_of, HaveSpines}
-use Rattle.moment_theory.specs.Free.{IsReachedBy}
 use Rattle.moment_theory.proofs.Members.{contains_member, member_contains, member_reached}
 use Rattle.moment_join.specs.Sites.{ReachSites}
 use Rattle.moment_join.specs.Staged.{AreStagesOf}
@@ -30,11 +29,11 @@ use Rattle.moment_body.specs.Stages.{AreStages}
 use Rattle.partition_step.specs.Parts.{IsPartOf}
 use Rattle.partition_step.proofs.Lists.{lists_same, some_at, at_map}
 use Rattle.moment_steps.specs.declared.piece.Piece.{Piece}
-use Rattle.moment_steps.specs.Settled.{own_uses, stages_in, AlwaysTicks, IsSettled, IsSlotOf}
+use Rattle.moment_steps.specs.Settled.{own_uses, stages_in, AlwaysTicks, IsSettled}
 use Rattle.moment_steps.specs.Standing.{IsLeftAt, StandsBefore}
 use Rattle.moment_steps.proofs.Rows.{is_piece}
 use Rattle.steps_ready.specs.Ready.{IsPreparedFrom}
-use Rattle.steps_ready.specs.private.Division.{entry_of, taken_at, part_of, AreDivided}
+use Rattle.steps_ready.specs.private.Division.{taken_at, AreDivided}
 use Rattle.steps_ready.specs.private.Parting.{AreParts, IsReadySlot, AreReady}
 use Rattle.steps_ready.specs.private.Starting.{start_of}
 use Rattle.steps_ready.proofs.Staged.{taken_uses, taken_spines, entries_uses, at_stage, partition_known, waits, partitions_below, parts_get, parts_long, plain}

@@ -1,4 +1,4 @@
-use Rattle.std.proofs.Common.{◌≡◌, ◌∙◌, refl, ap, true, [], ◌∷◌, ◌++◌, slice_get}
+use Rattle.std.proofs.Common.{◌∙◌, refl, ap, true, [], ◌∷◌, ◌++◌, slice_get}
 use Rattle.flat_model.specs.declared.clock.Elapsed.TheVariants.{Period}
 use Rattle.tree_step.specs.declared.frame.ClockNow.{ClockNow}
 use Rattle.steps_ready.proofs.starting.always.Goals as goal
