@@ -1,5 +1,5 @@
 //! How many there are of what is numbered.
-ghost use Rattle.std.specs.Prelude.{◌≡◌, ◌<◌, ◌≤◌, ◌^◌, All, IfOk, OnOk};
+ghost use Rattle.std.specs.Prelude.{◌≡◌, ℕ, ◌<◌, ◌≤◌, ◌^◌, All, IfOk, OnOk};
 
 use std::alloc::AllocError;
 
@@ -17,6 +17,7 @@ pub(crate) fn numbered(count: usize) -> Result<u32, AllocError>
 /// How many base partitions there are, by those of the classes: one more than the greatest number.
 pub(crate) fn count_partitions(partitions: &[u32]) -> usize
     ensures below { All (λ partition. partition < result) partitions.now }
+    ensures least { (count : ℕ) → All (λ partition. partition < count) partitions.now → result ≤ count }
     ensures few { result ≤ 2 ^ 32 }
 {
     let mut count = 0;
