@@ -56,7 +56,7 @@ module _ (text : List ℕ) (classes : List ClassDef) where
     all_counted zero scope path class i elements base old new some these past before added = absurd (omega (arith, some))
     all_counted (suc n) scope path class i elements base old new some these past before added =
         let less : suc n - 1 ≡ n = omega arith in
-        let parts = (λ e. component_items text classes n scope e path) in
+        let parts : Element → List Item = λ e. component_items text classes n scope e path in
         added ∙ ap (λ t. t ++ own_items own scope class) (before ∙ ap (λ m. base ++ flat_map (λ e. component_counts text classes own m scope e path) (take i elements)) less
         ∙ ap (λ t. base ++ flat_map (λ e. component_counts text classes own n scope e path) t) (take_all i elements past ∙ these))
         ∙ append_assoc base (flat_map (λ e. component_counts text classes own n scope e path) (elements_of text classes class)) (own_items own scope class)

@@ -94,8 +94,9 @@ impl<'a, 'm> Walk<'a, 'm> {
                 if self.file.short_of(class).is_some() {
                     self.declare(scope, modifiers, element, TypeName::Class(class), found)
                 } else if is_marked(self.marks, class) {
-                    let (inner, modifiers) =
-                        inside(self.alloc, self.file, scope, modifiers, element)?;
+                    let (inner, modifiers) = inside(
+                        self.alloc, self.file, scope, modifiers, element,
+                    )?;
                     self.items(levels, inner.as_slice(), &modifiers, class, found)
                 } else {
                     Ok(())

@@ -28,10 +28,10 @@ component-returns-in_ok-inner-in-Some-Class t c =
     (AddsAlong text classes c.as_slice.result.now inside.modifiers (class_counts text classes own c.args.levels c.as_slice.result.now class) c.args.found.now.items c.items.new.found.items)
     (AddsAlong text classes scope c.args.modifiers.now (component_counts text classes own c.args.levels scope element) c.args.found.now.items c.items.new.found.items)
     (λ added path force.
-      let along = stepped scope path element in
-      let inner = c.as_slice.ensures.value ∙ inside.ensures.scope in
-      let here = subst (λ s. AreInForce text s along inside.modifiers) (sym c.as_slice.ensures.value) (inside.ensures.force path force) in
-      added along here ∙ ap (λ more. map (seen text classes) c.args.found.now.items ++ filter (counts own) more) (inner_items text classes c.args.levels scope path element class c.as_slice.result.now typed long inner))
+    let along = stepped scope path element in
+    let inner = c.as_slice.ensures.value ∙ inside.ensures.scope in
+    let here = subst (λ s. AreInForce text s along inside.modifiers) (sym c.as_slice.ensures.value) (inside.ensures.force path force) in
+    added along here ∙ ap (λ more. map (seen text classes) c.args.found.now.items ++ filter (counts own) more) (inner_items text classes c.args.levels scope path element class c.as_slice.result.now typed long inner))
     c.items.ensures
 
 pub component-returns-else-is_marked : goal.component-returns-else-is_marked
