@@ -1,4 +1,5 @@
-//! The program: `clockrun MODEL --stop T` runs a model of a file and prints its trace.
+//! The program: `clockrun MODEL --stop T [--table FILE] [--class NAME] [--workers N] [--mode MODE]` runs a model of a
+//! file and prints its trace.
 #![tactic(auto)]
 
 use clocked_run::{Status, clocked_run};
