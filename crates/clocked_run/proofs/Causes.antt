@@ -36,7 +36,7 @@ use Rattle.trace_print.specs.declared.code.Code.{Code}
 use Rattle.trace_print.specs.declared.code.Code.TheVariants.{C2, C3, C6, C8, C9}
 use Rattle.command_answer.specs.declared.status.Status.{Status}
 use Rattle.command_answer.specs.declared.status.Status.TheVariants.{Done, Refused, Faulted, Usage, ReadFault, WriteFault, NoMemory}
-use Rattle.command_answer.specs.Actions.{Runs, clocking_of, model_of, table_of, in_mode, actions}
+use Rattle.command_answer.specs.Actions.{RunsAlone, clocking_of, model_of, table_of, in_mode, actions}
 use Rattle.command_answer.specs.Calls.{Outside, ReadRose, WriteRose, EndsWith, whole, out_failed, err_failed, IsNamed, IsRight, reads_in, no_memory}
 use Rattle.command_answer.specs.Layers.{asked, few, lexed, parsed, flattened, typed, termed, classed, solved, checked, ordered, tabled, untabled, counted, timed}
 use Rattle.command_answer.specs.Stages.{Answer, Stage, ◌>>=◌, always, ends_with, layer, refused, printed, usage_answer}
@@ -148,10 +148,10 @@ module _ (words : List (List ℕ)) (o : Outside) where
   unfolding ends_with Caused
   printed_caused text a same = subst Cause (ap (λ (x : Answer). x.status) (sym same)) tt
 
-  run_caused : (s : Setting) → Caused (ends_with (Runs s))
+  run_caused : (s : Setting) → Caused (ends_with (RunsAlone s))
   unfolding ends_with Caused
-  run_caused s a (inl (is, run)) = subst Cause (sym is) tt
-  run_caused s a (inr (is, run)) = subst Cause (sym is) tt
+  run_caused s a (inl (is, run), alone) = subst Cause (sym is) tt
+  run_caused s a (inr (is, run), alone) = subst Cause (sym is) tt
 
   asked_caused : Caused (asked words)
   unfolding asked layer Caused

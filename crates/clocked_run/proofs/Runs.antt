@@ -16,10 +16,12 @@ use Rattle.eq_order.specs.Order as orders
 use Rattle.tick_plan.specs.Plans.{Planned, IsNewPlan, moments_of}
 use Rattle.tick_plan.specs.Seen.{grid_seen}
 use Rattle.tick_plan.specs.declared.grid_plan.GridPlan.{GridPlan}
-use Rattle.command_answer.specs.Actions.{Runs, clocking_of, table_of, in_mode}
+use Rattle.command_answer.specs.Actions.{Runs, RunsAlone, clocking_of, table_of, in_mode}
 use Rattle.command_answer.specs.Layers.{ordered, counted, timed}
 use Rattle.command_answer.specs.Stages.{Answer, Stage, ◌>>=◌, always, ends_with, layer}
+use Rattle.clock_sides.specs.Laws.{IsAnswered}
 use Rattle.command_answer.proofs.Clocks.{is_answered}
+use Rattle.command_answer.proofs.Running.{run_alone}
 use Rattle.command_stages.specs.declared.end.End.{End}
 use Rattle.command_stages.specs.Ends.{Halts}
 use Rattle.command_stages.proofs.Halting.{halts_first, halts_next}
@@ -59,18 +61,22 @@ module _ (reads : List ℕ → Stage (List ℕ)) (c : Choice) (flat : FlatModel)
         run_uncounted end halts = halts_next _ _ clocking end clocked (halts_next _ _ order end is_order (halts_next _ _ table end is_table (halts_first _ _ end halts)))
 
         run_answers : (instants : List Ratio) → (counted clocking table c.stop).makes tt → AreInstants clocking.clocks table.times c.stop instants → (answer : Answer)
-            → Runs (record { model = flat; clocking = clocking; table = table; instants = instants }) answer → (in_mode reads Run c flat).ends answer
+            → RunsAlone (record { model = flat; clocking = clocking; table = table; instants = instants }) answer → (in_mode reads Run c flat).ends answer
         unfolding in_mode timed always ends_with ◌>>=◌
         run_answers instants few are answer runs = inr (clocking, clocked, inr (order, is_order, inr (table, is_table, inr (tt, few, inr (instants, are, runs)))))
 
         -- each answer of the run of a new plan ends the command
         pub run_ends : (plan : GridPlan) (workers : ℕ) → (counted clocking table c.stop).makes tt → IsNewPlan clocking.clocks table.times c.stop (length clocking.sites) (grid_seen plan)
             → Ends (in_mode reads Run c flat) (task.Run (record { flat = flat; clocking = clocking; order = order; table = table; plan = plan; workers = workers }))
+        unfolding ordered layer
         run_ends plan workers few new s is answer runs =
             let moments : moments_of s.instants ≡ moments_of new.instants = ap (λ (p : Planned). p.ahead) (sym is.plan_is ∙ new.plan_is) in
             let same : s.instants ≡ new.instants = same_instants s.instants new.instants (let rest : map (λ t. At t) s.instants ≡ map (λ t. At t) new.instants = cc in rest) in
             let setting : s ≡ record { model = flat; clocking = clocking; table = table; instants = new.instants } = setting_is s flat clocking table new.instants is.model is.clocking is.table same in
-            run_answers new.instants few new.are answer (subst (λ z. Runs z answer) setting runs)
+            let modelled : IsModel flat = subst (λ m. IsModel m) is.model is.is_model in
+            let answered : IsAnswered flat clocking = subst (λ k. IsAnswered flat k) is.clocking (subst (λ m. IsAnswered m s.clocking) is.model is.answered) in
+            let of_model : IsTableOf flat table = subst (λ x. IsTableOf flat x) is.table (subst (λ m. IsTableOf m s.table) is.model is.table_of) in
+            run_answers new.instants few new.are answer (run_alone flat clocking table new.instants modelled answered of_model order is_order answer (subst (λ z. Runs z answer) setting runs))
           where
             setting_is : (s : Setting) (m : FlatModel) (k : Clocking) (t : Table) (ts : List Ratio) → s.model ≡ m → s.clocking ≡ k → s.table ≡ t → s.instants ≡ ts → s ≡ record { model = m; clocking = k; table = t; instants = ts }
             setting_is s m k t ts a b d e =
