@@ -35,7 +35,6 @@ fn sight_before(sight: Sight) -> Sight
 }
 
 /// The cells, seen from the moment before.
-#[tactic(auto, using(crate::proofs::Tables::before_is))]
 pub(crate) fn from_left<'a>(table: &KeyTable<'a>) -> KeyTable<'a>
     ensures { table_of result ≡ cells_before (table_of table.now) }
 {
@@ -48,7 +47,6 @@ pub(crate) fn from_left<'a>(table: &KeyTable<'a>) -> KeyTable<'a>
 }
 
 /// The cell of a constant.
-#[tactic(auto, using(crate::proofs::Tables::const_is))]
 pub(crate) fn constant_cell(table: &KeyTable<'_>, value: Value) -> Option<u32>
     ensures { result ≡ (table_of table.now 0).const value }
 {

@@ -81,7 +81,7 @@ module _ (s : Setting) (uses before after : List Use) (S : Assignment) (m : ℕ)
     last_sound = all_sound s uses before after S m row w.last sound own ordered clear w.taken
 
     module _ (entry : Use) (member : IsMember entry own) where
-      is : IsOwn entry
+      abbrev is : IsOwn entry
       is = each entry member
 
       valued : class_ticks s (with_row S m row) (Some is.class) m ≡ true → IsValuedAt s w.last entry.name
