@@ -13,7 +13,11 @@ use tree_step::{Cell, ClockNow, Entry};
 fn value_from(boolean: bool, word: i64) -> Value
     ensures { result ≡ spec.value_from boolean word }
 {
-    if boolean { Value::Bool(word != 0) } else { Value::Int(word) }
+    if boolean {
+        Value::Bool(word != 0)
+    } else {
+        Value::Int(word)
+    }
 }
 
 /// The value of the use in a place, where its clock ticks.

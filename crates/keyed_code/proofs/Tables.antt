@@ -1,5 +1,5 @@
 -- Tables seen from one moment further back, and their constants.
-use Rattle.std.proofs.Common.{◌≡◌, refl, ℕ, zero, suc, List}
+use Rattle.std.proofs.Common.{◌≡◌, refl, ap, sym, ◌∙◌, ℕ, suc, ◌+◌, List, arith}
 use Rattle.std.proofs.Math.Path.{fun_ext}
 use Rattle.sync_values.specs.Relation.{rank}
 use Rattle.sync_values.specs.declared.value.Value.{Value}
@@ -24,7 +24,10 @@ module _ (keys : List CellKey) (names : List FlatName) (clock : ℕ) where
   before_is Far = fun_ext far
     where
       far : (back : ℕ) → cells_before (cells_before at) back ≡ cells_before (cells_before (cells_before at)) back
-      far back = refl
+      far back =
+          let two : back + 1 + 1 ≡ suc (suc back) = omega arith in
+          let three : back + 1 + 1 + 1 ≡ suc (suc (suc back)) = omega arith in
+          ap at two ∙ sym (ap at three)
 
   pub const_is : (sight : Sight) (v : Value) → (cells_from sight at 0).const v ≡ cell_of keys (key.Constant (rank v))
   const_is Now v = refl

@@ -54,7 +54,9 @@ pub(crate) fn landings_for(
 {
     let mut landings = Vec::new(alloc);
     for line in lines {
-        let cell = keys.number(CellKey::Value(line.name)).ok_or(NoCode::Unknown)?;
+        let cell = keys
+            .number(CellKey::Value(line.name))
+            .ok_or(NoCode::Unknown)?;
         let landing = Landing {
             cell,
             boolean: is_boolean(names, line.name),
@@ -74,7 +76,9 @@ pub(crate) fn code_lines<'a>(
 {
     let mut coded = Vec::new(alloc);
     for line in lines {
-        let cell = keys.number(CellKey::Value(line.name)).ok_or(NoCode::Unknown)?;
+        let cell = keys
+            .number(CellKey::Value(line.name))
+            .ok_or(NoCode::Unknown)?;
         let one = Line {
             name: line.name,
             cell,

@@ -35,7 +35,11 @@ fn side_for<'a>(equation: &'a Equation, name: u32) -> Option<&'a Expr>
             if is_read(left, name) {
                 return Some(right);
             }
-            if is_read(right, name) { Some(left) } else { None }
+            if is_read(right, name) {
+                Some(left)
+            } else {
+                None
+            }
         }
         Equation::Clocks { .. } => None,
     }

@@ -15,6 +15,7 @@ pub fn fill_words(scene: &Scene<'_>, cells: &[Cell], keys: &[CellKey], words: &m
     ensures size { length words.new ≡ length words.old }
 {
     for c in 0..keys.len() {
-        words[c] = word_for(scene, cells, keys[c]);
+        let key = keys[c];
+        words[c] = word_for(scene, cells, key);
     }
 }

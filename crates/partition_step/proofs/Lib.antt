@@ -1,3 +1,4 @@
+pub mod Coding
 pub mod Ending
 pub mod Intervals
 pub mod Laid
