@@ -154,6 +154,9 @@ interval_asked asks Far place times k has = no_key k has
 constant_asked : (asks : Asked) (sight : Sight) (k a : CellKey) → ((s : Sight) → KeyAsks asks s a) → Has (a ∷ []) k → KeyAsks asks sight k
 constant_asked asks sight k a h has = of_one asks sight a (h sight) k has
 
+abbrev choice_of : Asked → Asked → Asked → Asked
+choice_of cs bs other d q = cs d q + bs d q + other d q
+
 abbrev IsAskedFor : Expr → Type 0
 IsAskedFor e = (class : ℕ) (sight : Sight) (k : CellKey) → Has (keys_read e class sight) k → KeyAsks (asked e) sight k
 
@@ -179,18 +182,15 @@ module _ {A B : Type 0} (f : A → ClockExpr) (g : B → Expr) (each : (b : B) �
 
   choice_asked : (sight : Sight) (cs bs : List B) (other : B) (k : CellKey)
       → Has (keys_of_all (map keys_read (map g cs)) class sight ++ (keys_of_all (map keys_read (map g bs)) class sight ++ keys_read (g other) class sight)) k
-      → KeyAsks (λ d a. all_asked (map asked (map g cs)) d a + all_asked (map asked (map g bs)) d a + asked (g other) d a) sight k
+      → KeyAsks (choice_of (all_asked (map asked (map g cs))) (all_asked (map asked (map g bs))) (asked (g other))) sight k
   choice_asked sight cs bs other k has = by_three (split (keys_of_all (map keys_read (map g cs)) class sight) _ k has)
     where
-      abbrev all : Asked
-      all d a = all_asked (map asked (map g cs)) d a + all_asked (map asked (map g bs)) d a + asked (g other) d a
+      by_two : Has (keys_of_all (map keys_read (map g bs)) class sight) k ⊎ Has (keys_read (g other) class sight) k → KeyAsks (choice_of (all_asked (map asked (map g cs))) (all_asked (map asked (map g bs))) (asked (g other))) sight k
+      by_two (inl h) = more (all_asked (map asked (map g bs))) (choice_of (all_asked (map asked (map g cs))) (all_asked (map asked (map g bs))) (asked (g other))) (λ d a some. omega (arith, some)) sight k (parts_asked sight bs k h)
+      by_two (inr h) = more (asked (g other)) (choice_of (all_asked (map asked (map g cs))) (all_asked (map asked (map g bs))) (asked (g other))) (λ d a some. omega (arith, some)) sight k (each other class sight k h)
 
-      by_two : Has (keys_of_all (map keys_read (map g bs)) class sight) k ⊎ Has (keys_read (g other) class sight) k → KeyAsks all sight k
-      by_two (inl h) = more (all_asked (map asked (map g bs))) all (λ d a some. omega (arith, some)) sight k (parts_asked sight bs k h)
-      by_two (inr h) = more (asked (g other)) all (λ d a some. omega (arith, some)) sight k (each other class sight k h)
-
-      by_three : Has (keys_of_all (map keys_read (map g cs)) class sight) k ⊎ Has (keys_of_all (map keys_read (map g bs)) class sight ++ keys_read (g other) class sight) k → KeyAsks all sight k
-      by_three (inl h) = more (all_asked (map asked (map g cs))) all (λ d a some. omega (arith, some)) sight k (parts_asked sight cs k h)
+      by_three : Has (keys_of_all (map keys_read (map g cs)) class sight) k ⊎ Has (keys_of_all (map keys_read (map g bs)) class sight ++ keys_read (g other) class sight) k → KeyAsks (choice_of (all_asked (map asked (map g cs))) (all_asked (map asked (map g bs))) (asked (g other))) sight k
+      by_three (inl h) = more (all_asked (map asked (map g cs))) (choice_of (all_asked (map asked (map g cs))) (all_asked (map asked (map g bs))) (asked (g other))) (λ d a some. omega (arith, some)) sight k (parts_asked sight cs k h)
       by_three (inr h) = by_two (split (keys_of_all (map keys_read (map g bs)) class sight) (keys_read (g other) class sight) k h)
 
   level_asked : (y : Expr-F A B) (sight : Sight) (k : CellKey) → Has (keys_of_level (map-Expr ClockExpr Expr (Unit {0}) Reading (λ _. tt) keys_read (map-Expr A B ClockExpr Expr f g y)) class sight) k → KeyAsks (asked_of y) sight k

@@ -125,7 +125,7 @@ module _ (s : Setting) (uses before after : List Use) (partition : ℕ) (S : Ass
     now_kept x asks = let (cell, found) = seen.now x asks in kept_for x cell found
 
     last_kept : (x : ℕ) → 0 < asked side 0 (OfLast x) → IsKeptFor s S m base sight cells x
-    last_kept x asks = let (cell, found, more) = seen.last x asks in kept_for x cell found
+    last_kept x asks = let (cell, found, keeps, stands) = seen.last x asks in kept_for x cell found
 
     previous_kept : (x : ℕ) → 0 < asked side 0 (OfPrevious x) → IsKeptFor s S m base sight cells x
     previous_kept x asks = let (cell, found, more) = seen.previous x asks in kept_for x cell found

@@ -46,20 +46,22 @@ part_lines_next equations entries i lines new d line are lt is new_is =
 pub part_lines_first : (equations : List Equation) (entries : List Entry) → ArePartLines equations entries 0 []
 part_lines_first equations entries = record { size = refl; each = λ j line found. absurd (none-some line found) }
 
-pub landings_next : (names : List FlatName) (keys : List CellKey) (lines : List PartLine) (i : ℕ) (landings new : List Landing) (d : PartLine) (landing : Landing) → AreLandedTo names keys lines i landings → i < length lines
-    → cell_of keys (Value (get_or lines i d).name) ≡ Some landing.cell → landing.boolean ≡ is_boolean (types_in names (get_or lines i d).name) → new ≡ landings ++ landing ∷ [] → AreLandedTo names keys lines (i + 1) new
-landings_next names keys lines i landings new d landing are lt cell boolean new_is =
-    let next = fellow_next (λ (line : PartLine) (l : Landing). (cell_of keys (Value line.name) ≡ Some l.cell) × (l.boolean ≡ is_boolean (types_in names line.name))) lines i landings (get_or lines i d) landing (record { size = are.size; each = are.each }) (slice_get-get_or lines i d lt) (cell, boolean) in
-    subst (AreLandedTo names keys lines (i + 1)) (sym new_is) (record { size = next.size; each = next.each })
+pub landings_next : (names : List FlatName) (keys : List CellKey) (lines : List PartLine) (i : ℕ) (landings new : List Landing) (d line : PartLine) (landing : Landing) → AreLandedTo names keys lines i landings → i < length lines → line ≡ get_or lines i d
+    → cell_of keys (Value line.name) ≡ Some landing.cell → landing.boolean ≡ is_boolean (types_in names line.name) → new ≡ landings ++ landing ∷ [] → AreLandedTo names keys lines (i + 1) new
+landings_next names keys lines i landings new d line landing are lt is cell boolean new_is =
+    let next = fellow_next (λ (line : PartLine) (l : Landing). (cell_of keys (Value line.name) ≡ Some l.cell) × (l.boolean ≡ is_boolean (types_in names line.name))) lines i landings line landing
+    (record { size = are.size; each = λ j l at. let (x, found, one, other) = are.each j l at in (x, found, (one, other)) }) (slice_get-get_or lines i d lt ∙ ap Some (sym is)) (cell, boolean) in
+    subst (AreLandedTo names keys lines (i + 1)) (sym new_is) (record { size = next.size; each = λ j l at. let (x, found, both) = next.each j l at in (x, found, both.0, both.1) })
 
 pub landings_first : (names : List FlatName) (keys : List CellKey) (lines : List PartLine) → AreLandedTo names keys lines 0 []
 landings_first names keys lines = record { size = refl; each = λ j landing found. absurd (none-some landing found) }
 
-pub code_lines_next : (keys : List CellKey) (lines : List PartLine) (i : ℕ) (coded new : List Line) (d : PartLine) (one : Line) → AreCodeLines keys lines i coded → i < length lines
-    → cell_of keys (Value (get_or lines i d).name) ≡ Some one.cell → one.name ≡ (get_or lines i d).name → one.side.now ≡ (get_or lines i d).side.now → new ≡ coded ++ one ∷ [] → AreCodeLines keys lines (i + 1) new
-code_lines_next keys lines i coded new d one are lt cell name side new_is =
-    let next = fellow_next (λ (line : PartLine) (l : Line). (cell_of keys (Value line.name) ≡ Some l.cell) × (l.name ≡ line.name) × (l.side.now ≡ line.side.now)) lines i coded (get_or lines i d) one (record { size = are.size; each = are.each }) (slice_get-get_or lines i d lt) (cell, name, side) in
-    subst (AreCodeLines keys lines (i + 1)) (sym new_is) (record { size = next.size; each = next.each })
+pub code_lines_next : (keys : List CellKey) (lines : List PartLine) (i : ℕ) (coded new : List Line) (d line : PartLine) (one : Line) → AreCodeLines keys lines i coded → i < length lines → line ≡ get_or lines i d
+    → cell_of keys (Value line.name) ≡ Some one.cell → one.name ≡ line.name → one.side.now ≡ line.side.now → new ≡ coded ++ one ∷ [] → AreCodeLines keys lines (i + 1) new
+code_lines_next keys lines i coded new d line one are lt is cell name side new_is =
+    let next = fellow_next (λ (line : PartLine) (l : Line). (cell_of keys (Value line.name) ≡ Some l.cell) × (l.name ≡ line.name) × (l.side.now ≡ line.side.now)) lines i coded line one
+    (record { size = are.size; each = λ j l at. let (x, found, first, second, third) = are.each j l at in (x, found, (first, second, third)) }) (slice_get-get_or lines i d lt ∙ ap Some (sym is)) (cell, name, side) in
+    subst (AreCodeLines keys lines (i + 1)) (sym new_is) (record { size = next.size; each = λ j l at. let (x, found, all) = next.each j l at in (x, found, all.0, all.1, all.2) })
 
 pub code_lines_first : (keys : List CellKey) (lines : List PartLine) → AreCodeLines keys lines 0 []
 code_lines_first keys lines = record { size = refl; each = λ j one found. absurd (none-some one found) }

@@ -1,3 +1,3 @@
-mod Growing
-mod Stretching
-mod Whole
+pub mod Growing
+pub mod Runs
+pub mod Whole

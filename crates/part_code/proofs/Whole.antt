@@ -29,9 +29,9 @@ use Rattle.part_code.specs.declared.coded.Landing.{Landing}
 use Rattle.part_code.specs.Coded.{IsSideOf, AreStretchesOf, Has, IsAskedBy, IsLandingOf}
 use Rattle.part_code.specs.private.Lines.{IsLineOf, ArePartLines, AreLandedTo, AreCodeLines}
 use Rattle.part_code.specs.private.Stretching.{AreCodedTo}
-use Rattle.part_code.proofs.Stretching.{IsLineFor, stretches_of}
+use Rattle.part_code.proofs.Runs.{IsLineFor, stretches_of}
 
-some_at : {A : Type 0} (xs : List A) (i : ℕ) → i < length xs → (x : A) × (slice_get xs i ≡ Some x)
+pub some_at : {A : Type 0} (xs : List A) (i : ℕ) → i < length xs → (x : A) × (slice_get xs i ≡ Some x)
 some_at [] i lt = absurd (omega (arith, lt))
 some_at (x ∷ xs) zero lt = (x, refl)
 some_at (x ∷ xs) (suc i) lt = some_at xs i (omega (arith, lt))
@@ -100,10 +100,7 @@ module _ (equations : List Equation) (names : List FlatName) (entries : List Ent
       let (landing, landing_found) = some_at landings i (let within = slice_get_within entries i entry found in let a = are.size in let b = landed.size in omega (arith, within, a, b)) in
       let (line, line_found, cell, boolean) = landed.each i landing landing_found in
       let is = line_is i entry line found line_found in
-      (landing, landing_found, record { cell = ap (λ x. cell_of keys (Value x)) (sym is.name) ∙ cell; boolean = subst (λ x. landing.boolean ≡ boolean_of x) is.name boolean })
-    where
-      abbrev boolean_of : ℕ → Bool
-      boolean_of x = is_boolean (types_in names x)
+      (landing, landing_found, record { cell = ap (λ x. cell_of keys (Value x)) (sym is.name) ∙ cell; boolean = subst (λ x. landing.boolean ≡ is_boolean (types_in names x)) is.name boolean })
 
   pub stretches_are : (coded : List Line) → AreCodeLines keys lines (length lines) coded → (stretches : List ClassStretch) → AreCodedTo names keys entries coded (length entries) stretches → AreStretchesOf equations names keys entries stretches
   stretches_are coded given stretches to =

@@ -7,7 +7,6 @@ ghost use Rattle.part_layout.specs.Reads.{keys_of_lines};
 ghost use Rattle.part_code.specs.private.Lines.{AreLandedTo, AreCodeLines};
 
 use crate::coded::Landing;
-use crate::sides::no_memory;
 use cell_keys::{CellKey, CellKeys, NoCell};
 use flat_model::{FlatName, NameKind};
 use part_layout::{PartLine, lay_out};
@@ -61,7 +60,7 @@ pub(crate) fn landings_for(
             cell,
             boolean: is_boolean(names, line.name),
         };
-        landings.push(landing).map_err(no_memory)?;
+        landings.push(landing).map_err(|_| NoCode::Memory)?;
     }
     Ok(landings)
 }
@@ -84,7 +83,7 @@ pub(crate) fn code_lines<'a>(
             cell,
             side: line.side,
         };
-        coded.push(one).map_err(no_memory)?;
+        coded.push(one).map_err(|_| NoCode::Memory)?;
     }
     Ok(coded)
 }

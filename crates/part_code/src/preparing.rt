@@ -4,7 +4,7 @@ ghost use Rattle.part_code.specs.Coded.{IsCodeOf};
 
 use crate::coded::Coded;
 use crate::laying::{code_lines, keys_for, landings_for};
-use crate::sides::{lines_for, no_memory};
+use crate::sides::lines_for;
 use crate::stretching::{room_for, stretches_for};
 use flat_model::FlatModel;
 use std::alloc::{AllocError, Global};
@@ -22,7 +22,7 @@ fn code_of(alloc: Global, flat: &FlatModel, entries: &[Entry]) -> Result<Coded, 
     let coded = code_lines(alloc, &keys, &lines)?;
     let stretches = stretches_for(alloc, names, &keys, entries, &coded)?;
     let count = room_for(keys.len() as usize, &stretches);
-    let words = Vec::from_elem(alloc, 0, count).map_err(no_memory)?;
+    let words = Vec::from_elem(alloc, 0, count).map_err(|_| NoCode::Memory)?;
     Ok(Coded {
         keys,
         landings,

@@ -7,14 +7,9 @@ ghost use Rattle.part_code.specs.private.Lines.{IsSided, ArePartLines};
 
 use flat_model::{Equation, Expr, FlatModel};
 use part_layout::PartLine;
-use std::alloc::{AllocError, Global};
+use std::alloc::Global;
 use step_code::NoCode;
 use tree_step::Entry;
-
-/// Want of memory as a reason for no code.
-pub(crate) fn no_memory(_error: AllocError) -> NoCode {
-    NoCode::Memory
-}
 
 /// Whether an expression is a name by itself.
 fn is_read(expr: &Expr, name: u32) -> bool
@@ -72,7 +67,7 @@ pub(crate) fn lines_for<'a>(
             class: entry.clock,
             side,
         };
-        lines.push(line).map_err(no_memory)?;
+        lines.push(line).map_err(|_| NoCode::Memory)?;
     }
     Ok(lines)
 }

@@ -2,9 +2,8 @@
 ghost use Rattle.std.specs.Prelude.{◌≡◌, ℕ, ◌<◌, ◌≤◌, Some, length, slice_get, take, IfOk, All};
 ghost use Rattle.tree_step.specs.declared.taking.Entry.{Entry};
 ghost use Rattle.part_stretches.specs.Running.{IsRunWithin};
-ghost use Rattle.part_code.specs.private.Stretching.{AreCodedTo, IsEnd};
+ghost use Rattle.part_code.specs.private.Stretching.{AreCodedTo, IsEnd, clock_in};
 
-use crate::sides::no_memory;
 use cell_keys::{CellKeys, Sight};
 use flat_model::FlatName;
 use keyed_code::{KeyTable, prepare_stretch};
@@ -13,6 +12,16 @@ use std::alloc::Global;
 use step_code::NoCode;
 use step_lines::{Line, cells_of};
 use tree_step::Entry;
+
+/// The clock of the entry in a place.
+fn clock_at(entries: &[Entry], place: usize) -> u32
+    ensures { result ≡ clock_in (slice_get entries.now place) }
+{
+    match entries.get(place) {
+        Some(entry) => entry.clock,
+        None => 0,
+    }
+}
 
 /// The first place behind this one whose entry is of another clock, or the end.
 fn end_of(entries: &[Entry], start: usize) -> usize
@@ -42,7 +51,7 @@ pub(crate) fn stretches_for(
     let mut start = 0;
     while start < entries.len() {
         let end = end_of(entries, start);
-        let clock = entries[start].clock;
+        let clock = clock_at(entries, start);
         let table = KeyTable {
             keys,
             names,
@@ -54,10 +63,17 @@ pub(crate) fn stretches_for(
             class: clock,
             stretch,
         };
-        stretches.push(one).map_err(no_memory)?;
+        stretches.push(one).map_err(|_| NoCode::Memory)?;
         start = end;
     }
     Ok(stretches)
+}
+
+fn larger(a: usize, b: usize) -> usize
+    ensures first { a ≤ result }
+    ensures second { b ≤ result }
+{
+    if a < b { b } else { a }
 }
 
 /// How many words the stretches need, at least so many.
@@ -67,10 +83,7 @@ pub(crate) fn room_for(least: usize, stretches: &[ClassStretch]) -> usize
 {
     let mut count = least;
     for one in stretches {
-        let own = cells_of(&one.stretch.code);
-        if count < own {
-            count = own;
-        }
+        count = larger(count, cells_of(&one.stretch.code));
     }
     count
 }

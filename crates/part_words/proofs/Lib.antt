@@ -1,3 +1,3 @@
-mod Filling
-mod Setting
-mod Wholes
+pub mod Filling
+pub mod Setting
+pub mod Wholes

@@ -35,7 +35,7 @@ use Rattle.part_code.specs.Coded.{IsCodeOf}
 use Rattle.partition_step.specs.private.Coding.{IsSameOption}
 use Rattle.partition_step.specs.private.Stepping.{told_at, begun_at, kept_cell, ticked_class, ticked_from, ticked_at}
 use Rattle.partition_step.specs.private.Writing.{IsWritten}
-use Rattle.partition_step.proofs.Coding.{same_option}
+use Rattle.partition_step.proofs.SameCode.{same_option}
 use Rattle.partition_step.proofs.Intervals.{rests_at_initial}
 use Rattle.partition_step.proofs.Lists.{lists_same, none_past, some_at, at_map, map_kept, written_none, written_at, written_back}
 use Rattle.partition_step.proofs.Placing.{own_there, there, at_among, own_among, own_reached, entry_of_reached, CellOf, entry_of_cell}

@@ -1,4 +1,4 @@
-pub mod Coding
+pub mod SameCode
 pub mod Ending
 pub mod Intervals
 pub mod Laid

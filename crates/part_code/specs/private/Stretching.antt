@@ -1,5 +1,5 @@
 -- The stretches of entries, as they are made.
-use Rattle.std.specs.Prelude.{◌≡◌, ℕ, ◌<◌, ◌≤◌, ◌+◌, ◌-◌, List, [], ◌∷◌, length, Option, Some, slice_get, take, drop}
+use Rattle.std.specs.Prelude.{◌≡◌, ℕ, ◌<◌, ◌≤◌, ◌+◌, ◌-◌, List, [], ◌∷◌, length, Option, Some, None, slice_get, take, drop}
 use Rattle.flat_model.specs.declared.model.FlatName.{FlatName}
 use Rattle.cell_keys.specs.declared.key.CellKey.{CellKey}
 use Rattle.step_lines.specs.declared.stretch.Line.{Line}
@@ -7,6 +7,11 @@ use Rattle.step_lines.specs.Stretches.{lines_of, IsStretch}
 use Rattle.part_layout.specs.Keyed.{keyed_cells}
 use Rattle.part_stretches.specs.declared.running.ClassStretch.{ClassStretch}
 use Rattle.tree_step.specs.declared.taking.Entry.{Entry}
+
+-- the clock of an entry that may be there
+abbrev pub clock_in : Option Entry → ℕ
+clock_in None = 0
+clock_in (Some entry) = entry.clock
 
 -- the entries from a place up to an end are of one clock
 pub record IsEnd (entries : List Entry) (start end : ℕ) : Type 0 where

@@ -1,5 +1,5 @@
 use Rattle.std.proofs.Common.{◌≤◌}
-use Rattle.part_code.proofs.Stretching.{AreWithinTo}
+use Rattle.part_code.proofs.Runs.{AreWithinTo}
 use Rattle.part_code.proofs.stretching.room_for.Given as goal
 
 abbrev pub invariant-loop-one : goal.invariant-loop-one

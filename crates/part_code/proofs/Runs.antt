@@ -11,7 +11,8 @@ use Rattle.cell_keys.specs.declared.key.CellKey.{CellKey}
 use Rattle.cell_keys.specs.declared.key.CellKey.TheVariants.{Value}
 use Rattle.cell_keys.specs.declared.sight.Sight.TheVariants.{Now}
 use Rattle.cell_keys.specs.Cells.{cell_of}
-use Rattle.step_code.specs.Machine.{AreWithin}
+use Rattle.step_code.specs.declared.machine.Instr.{Instr}
+use Rattle.step_code.specs.Machine.{IsWithin, AreWithin}
 use Rattle.step_code.specs.Lines as plain
 use Rattle.step_lines.specs.declared.stretch.Line.{Line}
 use Rattle.step_lines.specs.Stretches.{line_of, lines_of}
@@ -71,10 +72,13 @@ at_take [] (suc n) j x found = absurd (none-some x found)
 at_take (y ∷ xs) (suc n) zero x found = (omega arith, found)
 at_take (y ∷ xs) (suc n) (suc j) x found = let (lt, at) = at_take xs n j x found in (omega (arith, lt), at)
 
+nil : {A : Type 0} (n : ℕ) → drop n (let none : List A = [] in none) ≡ []
+nil zero = refl
+nil (suc n) = refl
+
 drop_drop : {A : Type 0} (xs : List A) (i n : ℕ) → drop n (drop i xs) ≡ drop (i + n) xs
 drop_drop xs zero n = ap (λ k. drop k xs) (let e : n ≡ 0 + n = omega arith in e)
-drop_drop [] (suc i) zero = refl
-drop_drop [] (suc i) (suc n) = refl
+drop_drop [] (suc i) n = nil n ∙ sym (nil (suc i + n))
 drop_drop (x ∷ xs) (suc i) n = drop_drop xs i n ∙ sym (ap (λ k. drop k (x ∷ xs)) (let e : suc i + n ≡ suc (i + n) = omega arith in e))
 
 drop_head : {A : Type 0} (xs : List A) (i : ℕ) (x : A) → slice_get xs i ≡ Some x → drop i xs ≡ x ∷ drop (suc i) xs
@@ -173,3 +177,25 @@ pub record AreWithinTo (stretches : List ClassStretch) (i count : ℕ) : Type 0 
 
 pub within_first : (stretches : List ClassStretch) (count : ℕ) → AreWithinTo stretches 0 count
 within_first stretches count = record { each = λ j one lt found. absurd (omega (arith, lt)) }
+
+more_one : (n m : ℕ) → n ≤ m → (i : Instr) → IsWithin n i → IsWithin m i
+more_one n m le i is = record {
+  left = let lt = is.left in omega (arith, le, lt);
+  right = let lt = is.right in omega (arith, le, lt);
+  to = λ writes. let lt = is.to writes in omega (arith, le, lt);
+}
+
+more_within : (n m : ℕ) → n ≤ m → (code : List Instr) → AreWithin n code → AreWithin m code
+more_within n m le [] within = tt
+more_within n m le (i ∷ code) within = (more_one n m le i within.0, more_within n m le code within.1)
+
+pub within_next : (stretches : List ClassStretch) (i count more : ℕ) (d one : ClassStretch) → AreWithinTo stretches i count → i < length stretches → one ≡ get_or stretches i d → count ≤ more → IsRunWithin more one → AreWithinTo stretches (i + 1) more
+within_next stretches i count more d one to lt is le own = record {
+  each = λ j other less found. elim (cases_eq j i) [
+    | inl here ↦ subst (IsRunWithin more) (is ∙ sym (same_Some other (get_or stretches i d) (sym found ∙ ap (slice_get stretches) here ∙ slice_get-get_or stretches i d lt))) own
+    | inr there ↦ more_within count more le other.stretch.code.items (to.each j other (omega (arith, less, there)) found)
+  ];
+}
+
+pub within_all : (stretches : List ClassStretch) (i count : ℕ) → AreWithinTo stretches i count → length stretches ≤ i → All (IsRunWithin count) stretches
+within_all stretches i count to all = λ k d lt. to.each k (get_or stretches k d) (omega (arith, lt, all)) (slice_get-get_or stretches k d lt)
