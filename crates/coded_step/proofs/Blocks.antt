@@ -124,7 +124,7 @@ module _ (s : Setting) (uses before after : List Use) (partition : ℕ) (S : Ass
       )
 
   -- the blocks of stretches
-  blocks_of : (es : List Entry) (stretches : List ClassStretch) → AreStretchesOf sight.equations s.model.names code.keys es stretches → List Block
+  abbrev pub blocks_of : (es : List Entry) (stretches : List ClassStretch) → AreStretchesOf sight.equations s.model.names code.keys es stretches → List Block
   blocks_of es [] none = []
   blocks_of es (one ∷ rest) (first, front, behind, es_are, of, others) = record { class = class_of first; entries = uses_of (first ∷ front); lines = of.lines; at = at one.class } ∷ blocks_of behind rest others
 

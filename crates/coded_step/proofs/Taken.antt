@@ -74,13 +74,13 @@ same_name (Some w) cell = refl
 module _ (s : Setting) (uses before after : List Use) (partition : ℕ) (S : Assignment) (m : ℕ) (base : Row) (sight : Sight) (entries : List Entry) (cells : List Cell) (start : IsCodeStart s uses before after partition S m base sight entries cells) (code : Coded)
     (is : IsCodeOf sight.equations s.model.names entries code) (words : List ℤ) (new : List Cell) (landed : AreLanded sight.clocks entries code.landings.items words cells new) where
   -- the row that the uses leave, with what the words have of it
-  record Left : Type 0 where
-    last : Row
-    taken : AreTaken s S m (uses_of entries) base last
-    values : (e : Entry) → IsAmong e entries → class_ticks s (with_row S m base) (class_of_equation s e.equation) m ≡ true → (landing : Landing) → IsLandingOf s.model.names code.keys e landing
+  pub record Left : Type 0 where
+    pub last : Row
+    pub taken : AreTaken s S m (uses_of entries) base last
+    pub values : (e : Entry) → IsAmong e entries → class_ticks s (with_row S m base) (class_of_equation s e.equation) m ≡ true → (landing : Landing) → IsLandingOf s.model.names code.keys e landing
         → (v : Value) × (last e.name ≡ Some v) × (value_from landing.boolean (word_at words landing.cell) ≡ v)
-    rests : (e : Entry) → IsAmong e entries → class_ticks s (with_row S m base) (class_of_equation s e.equation) m ≡ false → last e.name ≡ None
-    told : IsLeast (FailsAmong s uses S m (uses_of entries) last) None
+    pub rests : (e : Entry) → IsAmong e entries → class_ticks s (with_row S m base) (class_of_equation s e.equation) m ≡ false → last e.name ≡ None
+    pub told : IsLeast (FailsAmong s uses S m (uses_of entries) last) None
 
   module _ (left : Left) where
     -- a cell that is there now
