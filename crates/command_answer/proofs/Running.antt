@@ -91,10 +91,13 @@ module _ (s : Setting) (uses free : List Use) (is : IsOrdered s uses free) where
       (ap (λ a. a.status) same, ap (λ a. a.out) same)
 
   pub runs_alone : (answer : Answer) → Runs s answer → RunsAlone s answer
-  runs_alone answer runs = (runs, record {
-    trace = of_other answer runs;
-    fault = λ S T n place kind range fault here. whole_none s uses free is T S n n (omega arith) range here place kind fault;
-  })
+  runs_alone answer runs = (
+    runs,
+    record {
+      trace = of_other answer runs;
+      fault = λ S T n place kind range fault here. whole_none s uses free is T S n n (omega arith) range here place kind fault;
+    },
+  )
 
 -- what a run of a model, its clocking and its table answers is alone
 pub run_alone : (flat : FlatModel) (clocking : Clocking) (table : Table) (instants : List Ratio) → IsModel flat → IsAnswered flat clocking → IsTableOf flat table
