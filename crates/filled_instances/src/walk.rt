@@ -1,5 +1,5 @@
 //! The instances of a class, and what they have that counts.
-ghost use Rattle.std.specs.Prelude.{◌≡◌, ◌++◌, IfOk, OnOk, length, map, filter};
+ghost use Rattle.std.specs.Prelude.{◌≡◌, IfOk, OnOk, map, filter};
 ghost use Rattle.mo_order.specs.Marks.{is_marked};
 ghost use Rattle.class_scopes.specs.declared.type_name.TypeName.TheVariants.{Class};
 ghost use Rattle.class_scopes.specs.Types.{type_of};
@@ -10,8 +10,8 @@ ghost use Rattle.flat_instances.specs.private.Walks as walks;
 ghost use Rattle.filled_instances.specs.Counting as counting;
 ghost use Rattle.filled_instances.specs.private.Counted as counted;
 
-use class_scopes::{File, TypeName, spelled};
-use flat_instances::{Item, Step, Variable};
+use class_scopes::{File, TypeName};
+use flat_instances::{Item, Modifiers, inside, variable};
 use mo_parser::Element;
 use std::alloc::{AllocError, Global};
 use sync_values::Text;
@@ -29,29 +29,6 @@ fn is_marked(marks: &[bool], class: usize) -> bool
     }
 }
 
-/// What stands before a name, and the name.
-fn named(alloc: Global, scope: &[u8], name: &[u8]) -> Result<Vec<u8>, AllocError>
-    ensures { IfOk result (λ v. v.items ≡ scope.now ++ name.now) }
-{
-    let mut whole = Vec::from_slice(alloc, scope)?;
-    whole.extend_from_slice(name)?;
-    Ok(whole)
-}
-
-/// A path with one more step.
-fn stepped<'a>(
-    alloc: Global,
-    path: &[Step<'a>],
-    scope: usize,
-    element: &'a Element,
-) -> Result<Vec<Step<'a>>, AllocError>
-    ensures { IfOk result (λ v. map kept.bare v.items ≡ walks.stepped (map kept.bare path.now) scope element.now) }
-{
-    let mut steps = Vec::from_slice(alloc, path)?;
-    steps.push(Step { scope, element })?;
-    Ok(steps)
-}
-
 /// A walk over the instances of a file that have something in them: `own` marks the classes with equations of their own,
 /// `marks` those that have something at any depth.
 #[derive(Clone, Copy)]
@@ -67,23 +44,15 @@ impl<'a, 'm> Walk<'a, 'm> {
     fn declare(
         &self,
         scope: &[u8],
-        path: &[Step<'a>],
+        modifiers: &Modifiers<'a>,
         element: &'a Element,
         type_name: TypeName,
         found: &mut Vec<Item<'a>>,
     ) -> Result<(), AllocError>
-        requires { walks.StandsBelow (length scope.now) (map kept.bare path.now) }
-        ensures { OnOk result (walks.Adds self.now.file.now.text.now self.now.file.now.classes.now found.old.items (walks.declared self.now.file.now.text.now self.now.file.now.classes.now scope.now (map kept.bare path.now) element.now type_name) found.new.items) }
+        ensures { OnOk result (walks.AddsAlong self.now.file.now.text.now self.now.file.now.classes.now scope.now modifiers.now (walks.declared self.now.file.now.text.now self.now.file.now.classes.now scope.now element.now type_name) found.old.items found.new.items) }
     {
-        let name = named(self.alloc, scope, spelled(self.file.text, element.name))?;
-        let name = Text::from_bytes(self.alloc, name.as_slice())?;
-        let path = stepped(self.alloc, path, scope.len(), element)?;
-        found.push(Item::Declared(Variable {
-            name,
-            element,
-            type_name,
-            path,
-        }))?;
+        let declared = variable(self.alloc, self.file, scope, modifiers, element, type_name)?;
+        found.push(Item::Declared(declared))?;
         Ok(())
     }
 
@@ -110,30 +79,25 @@ impl<'a, 'm> Walk<'a, 'm> {
         &self,
         levels: usize,
         scope: &[u8],
-        path: &[Step<'a>],
+        modifiers: &Modifiers<'a>,
         element: &'a Element,
         found: &mut Vec<Item<'a>>,
     ) -> Result<(), AllocError>
-        requires below { walks.StandsBelow (length scope.now) (map kept.bare path.now) }
-        requires marks { counted.AreFilledIn self.now.file.now.text.now self.now.file.now.classes.now self.now.own.now self.now.marks.now element.now }
-        ensures { OnOk result (walks.Adds self.now.file.now.text.now self.now.file.now.classes.now found.old.items (counted.component_counts self.now.file.now.text.now self.now.file.now.classes.now self.now.own.now levels scope.now (map kept.bare path.now) element.now) found.new.items) }
+        requires { counted.AreFilledIn self.now.file.now.text.now self.now.file.now.classes.now self.now.own.now self.now.marks.now element.now }
+        ensures { OnOk result (walks.AddsAlong self.now.file.now.text.now self.now.file.now.classes.now scope.now modifiers.now (counted.component_counts self.now.file.now.text.now self.now.file.now.classes.now self.now.own.now levels scope.now element.now) found.old.items found.new.items) }
     {
         match self.file.type_of(&element.base) {
             Some(TypeName::Simple(kind)) => {
-                self.declare(scope, path, element, TypeName::Simple(kind), found)
+                self.declare(scope, modifiers, element, TypeName::Simple(kind), found)
             }
             Some(TypeName::Class(class)) => {
                 if self.file.short_of(class).is_some() {
-                    self.declare(scope, path, element, TypeName::Class(class), found)
+                    self.declare(scope, modifiers, element, TypeName::Class(class), found)
                 } else if is_marked(self.marks, class) {
-                    let mut inner = named(
-                        self.alloc,
-                        scope,
-                        spelled(self.file.text, element.name),
+                    let (inner, modifiers) = inside(
+                        self.alloc, self.file, scope, modifiers, element,
                     )?;
-                    inner.push(b'.')?;
-                    let steps = stepped(self.alloc, path, scope.len(), element)?;
-                    self.items(levels, inner.as_slice(), steps.as_slice(), class, found)
+                    self.items(levels, inner.as_slice(), &modifiers, class, found)
                 } else {
                     Ok(())
                 }
@@ -148,19 +112,18 @@ impl<'a, 'm> Walk<'a, 'm> {
         &self,
         levels: usize,
         scope: &[u8],
-        path: &[Step<'a>],
+        modifiers: &Modifiers<'a>,
         class: usize,
         found: &mut Vec<Item<'a>>,
     ) -> Result<(), AllocError>
-        requires below { walks.StandsBelow (length scope.now) (map kept.bare path.now) }
-        requires marks { AreFilled self.now.file.now.text.now self.now.file.now.classes.now class self.now.own.now self.now.marks.now }
-        ensures { OnOk result (walks.Adds self.now.file.now.text.now self.now.file.now.classes.now found.old.items (counted.class_counts self.now.file.now.text.now self.now.file.now.classes.now self.now.own.now levels scope.now (map kept.bare path.now) class) found.new.items) }
+        requires { AreFilled self.now.file.now.text.now self.now.file.now.classes.now class self.now.own.now self.now.marks.now }
+        ensures { OnOk result (walks.AddsAlong self.now.file.now.text.now self.now.file.now.classes.now scope.now modifiers.now (counted.class_counts self.now.file.now.text.now self.now.file.now.classes.now self.now.own.now levels scope.now class) found.old.items found.new.items) }
     {
         if levels == 0 {
             return Ok(());
         }
         for element in self.file.elements_of(class) {
-            self.component(levels - 1, scope, path, element, found)?;
+            self.component(levels - 1, scope, modifiers, element, found)?;
         }
         self.own_equations(scope, class, found)
     }
@@ -185,7 +148,8 @@ pub fn filled_instances<'a>(
         own,
         marks,
     };
+    let modifiers = Modifiers::none(alloc);
     let mut found = Vec::new(alloc);
-    walk.items(LEVELS, b"".as_slice(), [].as_slice(), class, &mut found)?;
+    walk.items(LEVELS, b"".as_slice(), &modifiers, class, &mut found)?;
     Ok(found)
 }

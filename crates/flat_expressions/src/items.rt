@@ -1,8 +1,7 @@
 //! The equations and clauses of all that instances have.
-ghost use Rattle.std.specs.Prelude.{◌≡◌, ◌++◌, ◌∷◌, [], ◌<◌, ◌+◌, ◌^◌, IfOk, OnOk, List, None, ℕ, length, map, take};
+ghost use Rattle.std.specs.Prelude.{◌≡◌, ◌++◌, ◌∷◌, [], ◌<◌, ◌+◌, ◌^◌, IfOk, OnOk, List, None, ℕ, length, map, option_map, take};
 ghost use Rattle.class_scopes.specs.Tables.{number_of};
 ghost use Rattle.class_scopes.specs.Types.{class_equations};
-ghost use Rattle.flat_instances.specs.Instances.{outermost};
 ghost use Rattle.flat_instances.specs.Kept as kept;
 ghost use Rattle.parameter_values.specs.Values as values;
 ghost use Rattle.parameter_values.specs.private.Slots.{seen};
@@ -11,7 +10,7 @@ ghost use Rattle.flat_expressions.specs.Expressions as told;
 
 use crate::equations::equation_of;
 use crate::expressions::Teller;
-use flat_instances::{Given, Item, Variable, outermost};
+use flat_instances::{Given, Item, Variable};
 use flat_model::{RawEq, RawExpr};
 use mo_parser::{ClassDef, TreeEq, Variability};
 use std::alloc::AllocError;
@@ -81,17 +80,12 @@ impl<'a> Teller<'a> {
         variable: &Variable<'_>,
         equations: &mut List<RawEq>,
     ) -> Result<(), AllocError>
-        ensures { OnOk result (equations.new ≡ equations.old ++ map (eqs.in_clause None) (eqs.binding_sides self.now.text.now (seen self.now.parameters.now self.now.values.now) (number_of self.now.names.now) (values.is_fixed variable.now.element.now.variability) variable.now.name (outermost self.now.text.now [] (kept.path_of variable.now.name variable.now.path.items)))) }
+        ensures { OnOk result (equations.new ≡ equations.old ++ map (eqs.in_clause None) (eqs.binding_sides self.now.text.now (seen self.now.parameters.now self.now.values.now) (number_of self.now.names.now) (values.is_fixed variable.now.element.now.variability) variable.now.name (option_map (kept.placed_in variable.now.name) variable.now.binding))) }
     {
         if is_fixed(variable.element.variability) {
             return Ok(());
         }
-        match outermost(
-            self.alloc,
-            self.text,
-            variable.path.as_slice(),
-            [].as_slice(),
-        )? {
+        match variable.binding {
             Some(given) => self.add_given(variable.name.as_bytes(), given, equations),
             None => Ok(()),
         }

@@ -42,7 +42,7 @@ pub empty_behind : (text : List ℕ) (parts : List Span) (i : ℕ) (path : List 
 empty_behind text parts i [] within none = ap (λ p. behind (map (spelled text) p) []) (drop-cons parts i (record { at = 0; end = 0 }) within)
 empty_behind text parts i (x ∷ path) within none = absurd (omega (arith, none))
 
-givings : (text : List ℕ) (path : List Ident) (args : List Arg) → map (λ giving. giving path) (map (given_by text) args) ≡ map (λ arg. given_by text arg path) args
+pub givings : (text : List ℕ) (path : List Ident) (args : List Arg) → map (λ giving. giving path) (map (given_by text) args) ≡ map (λ arg. given_by text arg path) args
 givings text path [] = refl
 givings text path (arg ∷ args) = ap (λ rest. given_by text arg path ∷ rest) (givings text path args)
 

@@ -1,3 +1,5 @@
+pub mod Forces
 pub mod Givings
-pub mod Outer
+pub mod Listing
+pub mod ShortStarts
 pub mod Walking

@@ -8,7 +8,7 @@ use class_scopes::spelled;
 use mo_parser::{Arg, Span, TreeExpr};
 
 /// What is left of a path behind its first parts, where it begins with these.
-fn behind<'p, 'n>(text: &[u8], parts: &[Span], path: &'p [&'n [u8]]) -> Option<&'p [&'n [u8]]>
+pub fn behind<'p, 'n>(text: &[u8], parts: &[Span], path: &'p [&'n [u8]]) -> Option<&'p [&'n [u8]]>
     ensures { option_map (λ rest. map (λ name. name.now) rest.now) result ≡ modifications.behind (map (spelled text.now) parts.now) (map (λ name. name.now) path.now) }
 {
     let mut rest = path;

@@ -2,12 +2,17 @@
 //! modifications give each variable.
 #![tactic(auto)]
 
+mod component;
 mod given;
 mod item;
-mod modifying;
+mod modifier;
+mod modifiers;
+mod starts;
 mod walk;
 
+pub use component::{inside, variable};
 pub use given::given_in;
-pub use item::{Given, Item, Step, Variable};
-pub use modifying::outermost;
+pub use item::{Given, Item, Variable};
+pub use modifiers::Modifiers;
+pub use starts::start_of;
 pub use walk::instances;

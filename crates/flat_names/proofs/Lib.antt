@@ -1,4 +1,3 @@
 pub mod Apart
-pub mod Givens
 pub mod Named
 pub mod Tabled

@@ -5,7 +5,6 @@
 mod inputs;
 mod names;
 mod outer;
-mod starts;
 mod table;
 
 pub use names::Namer;

@@ -1,5 +1,5 @@
 //! The names of a flat model.
-ghost use Rattle.std.specs.Prelude.{◌≡◌, IfOk, OnOk, List, ◌++◌, Some, map};
+ghost use Rattle.std.specs.Prelude.{◌≡◌, IfOk, OnOk, List, ◌++◌, Some, map, take};
 ghost use Rattle.std.specs.List.{AllZip};
 ghost use Rattle.class_scopes.specs.Places.{is_among};
 ghost use Rattle.class_scopes.specs.Tables.{IsTableOf};
@@ -14,14 +14,24 @@ ghost use Rattle.parameter_values.specs.private.Outcomes as outcomes;
 ghost use Rattle.parameter_values.specs.private.Slots.{seen};
 
 use crate::inputs::{has_input, is_valued};
-use crate::starts::{front, start_of};
 use class_scopes::{File, Table};
-use flat_instances::{Given, Item, Variable};
+use flat_instances::{Given, Item, Variable, start_of};
 use flat_model::{FlatName, NameKind};
 use mo_parser::Variability;
 use parameter_values::{Outcome, Values};
 use std::alloc::{AllocError, Global};
 use sync_values::{List, Text, Value};
+
+/// So many of the first bytes, or all where they are fewer.
+fn front(bytes: &[u8], count: usize) -> &[u8]
+    ensures { result.now ≡ take count bytes.now }
+{
+    if count <= bytes.len() {
+        &bytes[..count]
+    } else {
+        bytes
+    }
+}
 
 /// What the names of a flat model are made with.
 #[derive(Drop)]
@@ -99,7 +109,7 @@ impl<'a> Namer<'a> {
     ) -> Result<Option<Value>, AllocError>
         ensures { IfOk result (λ start. start ≡ values.value_by self.now.file.now.text.now self.now.file.now.classes.now (seen self.now.parameters.now self.now.values.now) (Some kind) (kept.seen_variable self.now.file.now.text.now self.now.file.now.classes.now variable.now).start) }
     {
-        let given = start_of(self.alloc, self.file, variable)?;
+        let given = start_of(self.file, variable);
         match given {
             Some(given) => self.evaluated(kind, variable.name.as_bytes(), given),
             None => Ok(zero(kind)),

@@ -90,7 +90,7 @@ fn exceeds<'a>(
     requires { measures.HaveFew measure.now.scopes.now.named.file.text.now measure.now.scopes.now.named.file.classes.now (map (kept.seen measure.now.scopes.now.named.file.text.now measure.now.scopes.now.named.file.classes.now) items.now) }
     ensures { IfOk result (measures.Exceeds measure.now.scopes.now.named.file.text.now measure.now.scopes.now.named.file.classes.now measure.now.starts.now.tokens.now (map (kept.seen measure.now.scopes.now.named.file.text.now measure.now.scopes.now.named.file.classes.now) items.now)) }
 {
-    let size = measure.size(alloc, items)?;
+    let size = measure.size(items);
     let pairs = pair_count(alloc, measure.scopes, items)?;
     let equations = added(size.equations, pairs, MANY_EQUATIONS);
     if equations == MANY_EQUATIONS {

@@ -1,2 +1,1 @@
 pub mod Measuring
-pub mod Starts

@@ -2,7 +2,6 @@
 #![tactic(auto)]
 
 mod bindings;
-mod given;
 mod measure;
 mod size;
 

@@ -1,18 +1,14 @@
 //! What is given to a variable.
-ghost use Rattle.std.specs.Prelude.{◌≡◌, IfOk, List, [], ◌∷◌, ℕ, codes, map, option_map, take};
-ghost use Rattle.class_scopes.specs.Types as types;
-ghost use Rattle.flat_instances.specs.Instances as instances;
+ghost use Rattle.std.specs.Prelude.{◌≡◌, IfOk, option_map, take};
 ghost use Rattle.flat_instances.specs.Kept as kept;
-ghost use Rattle.flat_instances.specs.Modifications as modifications;
-ghost use Rattle.std.specs.Option.{option_copied};
 ghost use Rattle.parameter_values.specs.Values as values;
 ghost use Rattle.parameter_values.specs.private.Givens as givens;
 ghost use Rattle.value_rules.specs.Needs as wanted;
 
-use class_scopes::{File, TypeName};
-use flat_instances::{Given, Variable, given_in, outermost};
+use class_scopes::File;
+use flat_instances::{Given, Variable, start_of};
 use flat_model::NameKind;
-use mo_parser::{Short, TreeExpr, Variability};
+use mo_parser::Variability;
 use parameter_values::Parameter;
 use std::alloc::{AllocError, Global};
 use sync_values::Text;
@@ -40,77 +36,13 @@ fn front(bytes: &[u8], count: usize) -> &[u8]
     }
 }
 
-/// The name of the start.
-fn start_name<'a>() -> &'a [u8]
-    ensures { result.now ≡ codes "start" }
-{
-    b"start".as_slice()
-}
-
-/// What stands in a short connector as its start.
-fn short_expr<'a>(text: &[u8], short: &'a Short) -> Option<&'a TreeExpr>
-    ensures { option_copied result ≡ modifications.first_of (map (λ arg. modifications.given_by text.now arg (codes "start" ∷ [])) short.now.args) }
-{
-    let start = [b"start".as_slice()];
-    given_in(text, short.args.as_slice(), start.as_slice())
-}
-
-/// The start that a short connector gives.
-fn short_start<'a>(file: &'a File<'a>, type_name: TypeName) -> Option<Given<'a>>
-    ensures { (name : List ℕ) → option_map (kept.placed_in name) result ≡ instances.short_start file.now.text.now file.now.classes.now type_name }
-{
-    match type_name {
-        TypeName::Class(class) => match file.short_of(class) {
-            Some(short) => match short_expr(file.text, short) {
-                Some(expr) => Some(Given { scope: 0, expr }),
-                None => None,
-            },
-            None => None,
-        },
-        _ => None,
-    }
-}
-
-/// The outermost binding of a variable.
-fn binding_of<'a>(
-    alloc: Global,
-    file: &'a File<'a>,
-    variable: &Variable<'a>,
-) -> Result<Option<Given<'a>>, AllocError>
-    ensures { IfOk result (λ given. option_map (kept.placed_in variable.now.name) given ≡ (kept.seen_variable file.now.text.now file.now.classes.now variable.now).binding) }
-{
-    outermost(alloc, file.text, variable.path.as_slice(), [].as_slice())
-}
-
-/// The outermost start of a variable, or that of its short connector.
-fn start_of<'a>(
-    alloc: Global,
-    file: &'a File<'a>,
-    variable: &Variable<'a>,
-) -> Result<Option<Given<'a>>, AllocError>
-    ensures { IfOk result (λ given. option_map (kept.placed_in variable.now.name) given ≡ (kept.seen_variable file.now.text.now file.now.classes.now variable.now).start) }
-{
-    let mut start = Vec::new(alloc);
-    start.push(start_name())?;
-    let given = outermost(alloc, file.text, variable.path.as_slice(), start.as_slice())?;
-    match given {
-        Some(given) => Ok(Some(given)),
-        None => Ok(short_start(file, variable.type_name)),
-    }
-}
-
 /// The expression of a parameter's value.
-fn value_of<'a>(
-    alloc: Global,
-    file: &'a File<'a>,
-    variable: &Variable<'a>,
-) -> Result<Option<Given<'a>>, AllocError>
-    ensures { IfOk result (λ given. option_map (kept.placed_in variable.now.name) given ≡ values.value_expr file.now.text.now file.now.classes.now (kept.seen_variable file.now.text.now file.now.classes.now variable.now)) }
+fn value_of<'a>(file: &'a File<'a>, variable: &Variable<'a>) -> Option<Given<'a>>
+    ensures { option_map (kept.placed_in variable.now.name) result ≡ values.value_expr file.now.text.now file.now.classes.now (kept.seen_variable file.now.text.now file.now.classes.now variable.now) }
 {
-    let binding = binding_of(alloc, file, variable)?;
-    match binding {
-        Some(given) => Ok(Some(given)),
-        None => start_of(alloc, file, variable),
+    match variable.binding {
+        Some(given) => Some(given),
+        None => start_of(file, variable),
     }
 }
 
@@ -151,23 +83,19 @@ pub fn parameter_of<'a>(
 ) -> Result<Parameter<'a>, AllocError>
     ensures { IfOk result (λ parameter. givens.valued parameter ≡ givens.valued_of file.now.text.now file.now.classes.now (kept.seen_variable file.now.text.now file.now.classes.now variable.now)) }
 {
-    let given = value_of(alloc, file, variable)?;
+    let given = value_of(file, variable);
     let kind = file.kind_of(variable.type_name);
     valued(alloc, kind, variable.name.as_bytes(), given)
 }
 
 /// The expression of a variable's own value, where it is a parameter or constant.
-fn own_of<'a>(
-    alloc: Global,
-    file: &'a File<'a>,
-    variable: &Variable<'a>,
-) -> Result<Option<Given<'a>>, AllocError>
-    ensures { IfOk result (λ given. option_map (kept.placed_in variable.now.name) given ≡ wanted.own_expr file.now.text.now file.now.classes.now (kept.seen_variable file.now.text.now file.now.classes.now variable.now)) }
+fn own_of<'a>(file: &'a File<'a>, variable: &Variable<'a>) -> Option<Given<'a>>
+    ensures { option_map (kept.placed_in variable.now.name) result ≡ wanted.own_expr file.now.text.now file.now.classes.now (kept.seen_variable file.now.text.now file.now.classes.now variable.now) }
 {
     if is_fixed(variable.element.variability) {
-        value_of(alloc, file, variable)
+        value_of(file, variable)
     } else {
-        Ok(None)
+        None
     }
 }
 
@@ -180,9 +108,9 @@ pub fn needs_of<'a>(
     ensures { IfOk result (λ needs. wanted.needed needs ≡ wanted.needs_of file.now.text.now file.now.classes.now (kept.seen_variable file.now.text.now file.now.classes.now variable.now)) }
 {
     let kind = file.kind_of(variable.type_name);
-    let given = own_of(alloc, file, variable)?;
+    let given = own_of(file, variable);
     let own = valued(alloc, kind, variable.name.as_bytes(), given)?;
-    let given = start_of(alloc, file, variable)?;
+    let given = start_of(file, variable);
     let start = valued(alloc, kind, variable.name.as_bytes(), given)?;
     Ok(Needs { own, start })
 }

@@ -1,10 +1,8 @@
 //! Tests of instances, of modifications and of values of parameters.
 use crate::texts::tree_of;
 use class_scopes::{File, names};
-use flat_instances::{Item, Variable, instances, outermost};
+use flat_instances::{Given, Item, instances};
 use mo_parser::TreeNode;
-use std::alloc::Global;
-use std::process::Abort;
 use sync_values::Value;
 
 const MODEL: &[u8] =
@@ -24,35 +22,20 @@ const ITEMS: [(&str, Option<i64>, Option<i64>); 9] = [
     ("=", None, None),
 ];
 
-/// The number that is given to a variable.
-fn given(
-    rt: &impl Abort,
-    alloc: Global,
-    text: &[u8],
-    variable: &Variable<'_>,
-    attribute: &[&[u8]],
-) -> Option<i64> {
-    let found = outermost(alloc, text, variable.path.as_slice(), attribute)
-        .ok()
-        .expect(rt, "memory");
-    match &found?.expr.node {
+/// The number that is given.
+fn number_of(given: Option<Given<'_>>) -> Option<i64> {
+    match &given?.expr.node {
         TreeNode::Const(Value::Int(number)) => Some(*number),
         _ => None,
     }
 }
 
-fn is_item(
-    rt: &impl Abort,
-    alloc: Global,
-    item: &Item<'_>,
-    want: &(&str, Option<i64>, Option<i64>),
-) -> bool {
+fn is_item(item: &Item<'_>, want: &(&str, Option<i64>, Option<i64>)) -> bool {
     match item {
         Item::Declared(variable) => {
-            let starts = [b"start".as_slice()];
             variable.name.as_bytes() == want.0.as_bytes()
-                && given(rt, alloc, MODEL, variable, [].as_slice()) == want.1
-                && given(rt, alloc, MODEL, variable, starts.as_slice()) == want.2
+                && number_of(variable.binding) == want.1
+                && number_of(variable.start) == want.2
         }
         Item::Own(scope, _) => {
             let [first, rest @ ..] = want.0.as_bytes() else {
@@ -75,6 +58,6 @@ fn items_of_instances(rt: HostRuntime) {
         .expect(&rt, "memory");
     assert!(rt; found.len() == 9);
     for (number, item) in found.iter().enumerate() {
-        assert!(rt; is_item(&rt, alloc, item, &ITEMS[number]), "at {}", number);
+        assert!(rt; is_item(item, &ITEMS[number]), "at {}", number);
     }
 }

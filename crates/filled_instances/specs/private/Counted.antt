@@ -6,8 +6,7 @@ use Rattle.class_scopes.specs.declared.type_name.TypeName.TheVariants.{Class}
 use Rattle.class_scopes.specs.Spelled.{Ident}
 use Rattle.class_scopes.specs.Types.{type_of}
 use Rattle.class_order.specs.Content.{AreFilled}
-use Rattle.flat_instances.specs.Instances.{Item, Own}
-use Rattle.flat_instances.specs.Kept.{Bare}
+use Rattle.flat_instances.specs.Instances.{Step, Item, Own}
 use Rattle.flat_instances.specs.private.Walks.{component_items, class_items}
 use Rattle.filled_instances.specs.Counting.{counts}
 
@@ -17,11 +16,11 @@ own_items own scope class = filter (counts own) (Own scope class ∷ [])
 
 module _ (text : List ℕ) (classes : List ClassDef) (own : List Bool) where
   -- what counts of a component, and of an instance of a class
-  abbrev pub component_counts : ℕ → Ident → List Bare → Element → List Item
-  component_counts levels scope path element = filter (counts own) (component_items text classes levels scope path element)
+  abbrev pub component_counts : ℕ → Ident → Element → List Step → List Item
+  component_counts levels scope element path = filter (counts own) (component_items text classes levels scope element path)
 
-  abbrev pub class_counts : ℕ → Ident → List Bare → ℕ → List Item
-  class_counts levels scope path class = filter (counts own) (class_items text classes levels scope path class)
+  abbrev pub class_counts : ℕ → Ident → ℕ → List Step → List Item
+  class_counts levels scope class path = filter (counts own) (class_items text classes levels scope class path)
 
   -- the marks are right for the class of a component, and for all that is reached from it
   abbrev pub AreFilledIn : List Bool → Element → Type 0

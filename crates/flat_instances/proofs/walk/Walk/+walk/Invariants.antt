@@ -1,5 +1,7 @@
-use Rattle.std.proofs.Common.{◌≡◌, ◌+◌, ◌-◌, ◌*◌, ◌++◌, map, flat_map, take}
-use Rattle.flat_instances.specs.Kept.{seen, bare}
+use Rattle.std.proofs.Common.{◌≡◌, ◌+◌, ◌-◌, ◌*◌, ◌++◌, List, map, flat_map, take}
+use Rattle.flat_instances.specs.Instances.{Step}
+use Rattle.flat_instances.specs.Kept.{seen}
+use Rattle.flat_instances.specs.private.Force.{AreInForce}
 use Rattle.flat_instances.specs.private.Walks.{component_items}
 use Rattle.flat_instances.proofs.walk.Walk.+walk.Given as goal
 
@@ -13,5 +15,6 @@ abbrev pub invariant-items-loop-element : goal.invariant-items-loop-element
 invariant-items-loop-element l =
     let text = l.self.file.now.text.now in
     let classes = l.self.file.now.classes.now in
-    map (seen text classes) l.found.items
-    ≡ map (seen text classes) l.initial.found.items ++ flat_map (component_items text classes (l.levels - 1) l.scope (map bare l.path)) (take l.element-index l.element-items)
+    (path : List Step) → AreInForce text l.scope path l.modifiers
+    → map (seen text classes) l.found.items
+    ≡ map (seen text classes) l.initial.found.items ++ flat_map (λ e. component_items text classes (l.levels - 1) l.scope e path) (take l.element-index l.element-items)

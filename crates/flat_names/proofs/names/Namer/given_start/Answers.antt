@@ -10,7 +10,7 @@ returns-in-Some c =
     let text = c.args.self.now.file.now.text.now in
     let classes = c.args.self.now.file.now.classes.now in
     subst (λ p. IfOk c.evaluated.result (λ v. v ≡ value_by text classes (seen c.args.self.now.parameters.now c.args.self.now.values.now) (Some c.args.kind) p))
-    (ap (λ n. Some (placed_in n c.in-Some.given)) c.as_bytes.ensures ∙ sym (ap (option_map (placed_in c.args.variable.now.name)) c.in-Some.is) ∙ c.in_ok-given.ensures)
+    (ap (λ n. Some (placed_in n c.in-Some.given)) c.as_bytes.ensures ∙ sym (ap (option_map (placed_in c.args.variable.now.name)) c.in-Some.is) ∙ c.start_of-given.ensures)
     c.evaluated.ensures
 
 pub returns-in-None : goal.returns-in-None
@@ -18,4 +18,4 @@ returns-in-None c =
     let text = c.args.self.now.file.now.text.now in
     let classes = c.args.self.now.file.now.classes.now in
     c.zero.ensures ∙ ap (value_by text classes (seen c.args.self.now.parameters.now c.args.self.now.values.now) (Some c.args.kind))
-    (sym (ap (option_map (placed_in c.args.variable.now.name)) c.in-None.is) ∙ c.in_ok-given.ensures)
+    (sym (ap (option_map (placed_in c.args.variable.now.name)) c.in-None.is) ∙ c.start_of-given.ensures)

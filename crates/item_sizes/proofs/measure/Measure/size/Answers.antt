@@ -12,9 +12,9 @@ loop-item-preserved c =
     let tokens = c.args.self.now.starts.now.tokens.now in
     record {
       equations_are = one_capped (λ item. item_equations text classes (seen text classes item)) c.args.items.now c.loop-item.item-index c.item-item.result (omega arith) c.item-item.is
-          65537 c.loop-item.equations c.in_ok-size.size.equations c.added-equations.result c.loop-item.invariant.equations_are c.in_ok-size.ensures.equations_are c.added-equations.ensures;
+          65537 c.loop-item.equations c.item_size-size.result.equations c.added-equations.result c.loop-item.invariant.equations_are c.item_size-size.ensures.equations_are c.added-equations.ensures;
       tokens_are = one_capped (λ item. item_tokens text classes tokens (seen text classes item)) c.args.items.now c.loop-item.item-index c.item-item.result (omega arith) c.item-item.is
-          4194305 c.loop-item.tokens c.in_ok-size.size.tokens c.added-tokens.result c.loop-item.invariant.tokens_are c.in_ok-size.ensures.tokens_are c.added-tokens.ensures;
+          4194305 c.loop-item.tokens c.item_size-size.result.tokens c.added-tokens.result c.loop-item.invariant.tokens_are c.item_size-size.ensures.tokens_are c.added-tokens.ensures;
     }
 
 pub returns : goal.returns

@@ -1,0 +1,4 @@
+pub mod Divided
+pub mod Parted
+pub mod Staged
+pub mod Standing

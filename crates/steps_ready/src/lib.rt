@@ -1,0 +1,10 @@
+//! The steps of a model's moments before the first one, from the order of its uses.
+#![tactic(auto)]
+
+mod counting;
+mod division;
+mod parting;
+mod preparing;
+mod starting;
+
+pub use preparing::prepare_steps;
