@@ -1,8 +1,7 @@
 -- The instants of a run: they can be measured, there is one, and they are not too many to be counted.
-use Rattle.std.proofs.Common.{◌≡◌, refl, sym, subst, ap, ◌∙◌, ℕ, ◌+◌, ◌*◌, ◌/◌, ◌^◌, ◌<◌, ◌≤◌, ◌⊎◌, inl, ⊎_elim, zero, suc, List, [], ◌∷◌, None, zero-lt-suc, slice_get, get_or, Some, length, All, Any, arith, mul-pos, lt_of_mul-lt-mul_right, mul-lt-mul_of_pos_right}
-use Rattle.std.specs.Int.{IsGcd, ◌∣◌}
-use Rattle.std.proofs.Math.Nat.{eq-one_of_dvd-one, div-mul_cancel, eq_of_mul-eq-mul_right}
-use Rattle.std.proofs.lemmas.Nat.Gcd.{IsGcd-swap, le_of_dvd, dvd_refl, dvd-zero}
+use Rattle.std.proofs.Common.{◌≡◌, refl, sym, subst, ap, ◌∙◌, ℕ, ◌+◌, ◌*◌, ◌/◌, ◌^◌, ◌<◌, ◌≤◌, inl, ⊎_elim, zero, suc, List, [], ◌∷◌, None, zero-lt-suc, slice_get, Some, length, All, arith, mul-pos, lt_of_mul-lt-mul_right, mul-lt-mul_of_pos_right}
+use Rattle.std.proofs.Math.Nat.{div-mul_cancel, eq_of_mul-eq-mul_right}
+use Rattle.std.proofs.lemmas.Nat.Gcd.{IsGcd-swap, le_of_dvd}
 use Rattle.std.proofs.lemmas.Option.{slice_get_read}
 use Rattle.rational_time.specs.declared.ratio.Ratio.{Ratio}
 use Rattle.rational_time.specs.Fraction.{Same, AtMost, IsTick}
@@ -17,7 +16,7 @@ use Rattle.flat_model.specs.Intervals.{IsInRange}
 use Rattle.flat_model.specs.Moments.{IsDue, TicksAt, AreInstants, moment_at}
 use Rattle.flat_model.specs.Runnable.{denominators}
 use Rattle.flat_model.specs.Tables.{IsTime}
-use Rattle.flat_model.specs.Plan.{rows_within, plan_limit}
+use Rattle.flat_model.specs.Plan.{rows_within}
 use Rattle.flat_model.proofs.OneAnswer.{instants_once}
 use Rattle.flat_model.proofs.Ratios.{ratio_of}
 use Rattle.tick_plan.specs.NewPlan.{AreFewEnough}

@@ -1,7 +1,7 @@
 -- A planned run can be prepared, and starts before its first moment.
-use Rattle.std.proofs.Common.{◌≡◌, sym, subst, ap, ◌∙◌, ℕ, ◌≤◌, ◌<◌, ◌^◌, length}
+use Rattle.std.proofs.Common.{subst, ◌<◌, ◌^◌, length}
 use Rattle.flat_model.specs.declared.model.FlatModel.{FlatModel}
-use Rattle.flat_model.specs.Models.{AreNames, size_limit}
+use Rattle.flat_model.specs.Models.{AreNames}
 use Rattle.flat_model.specs.Runnable.{IsRunnable}
 use Rattle.flat_model.specs.Setting.{Setting}
 use Rattle.clock_sides.proofs.Whole.{runnable}

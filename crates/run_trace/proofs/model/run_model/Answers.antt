@@ -1,8 +1,6 @@
 use Rattle.std.proofs.Common.{refl, sym, subst, ◌∙◌, None}
-use Rattle.flat_model.specs.Setting.{Setting}
 use Rattle.tick_plan.specs.Seen.{grid_seen}
 use Rattle.fork_runner.specs.Preparing.{IsPrepared}
-use Rattle.run_trace.specs.Planned.{IsPlannedRun}
 use Rattle.run_trace.specs.Printing.{written}
 use Rattle.run_trace.proofs.Ending.{memory_ends}
 use Rattle.run_trace.proofs.Prepared.{is_prepared, few_moments}

@@ -2,7 +2,7 @@ use Rattle.std.proofs.Common.{◌≡◌, ◌≤◌, length}
 use Rattle.flat_model.specs.Assignment.{Assignment}
 use Rattle.flat_model.specs.Setting.{Setting}
 use Rattle.flat_model.specs.Trace.{columns_of}
-use Rattle.fork_runner.specs.Runners.{StandsFor, flat_of, seen_of}
+use Rattle.fork_runner.specs.Runners.{StandsFor, flat_of}
 use Rattle.run_trace.specs.Printing.{written}
 use Rattle.run_trace.proofs.Rowing.{IsSoFar}
 use Rattle.run_trace.proofs.print.put_trace.Given as goal
