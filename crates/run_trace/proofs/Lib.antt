@@ -1,3 +1,5 @@
 pub mod Putting
 pub mod Rowing
 pub mod Ending
+mod Instants
+mod Prepared

@@ -1,3 +1,4 @@
+pub mod Planned
 pub mod Printing
 pub mod Standing
 pub mod private

@@ -1,12 +1,8 @@
--- What is asked of rows that are printed: for what they stand. This project's own.
+-- What is asked of a runner whose rows are printed: for what it stands. This project's own.
 use Rattle.std.specs.Prelude.{◌≡◌, ◌^◌, ◌<◌, ℕ, length}
 use Rattle.flat_model.specs.declared.model.FlatModel.{FlatModel}
 use Rattle.flat_model.specs.Assignment.{Assignment}
 use Rattle.flat_model.specs.Setting.{Setting}
-
--- some setting has an assignment and a moment for which it stands
-abbrev pub StandsForSome : (Setting → Assignment → ℕ → Type 0) → Type 0
-StandsForSome stands = (s : Setting) × (S : Assignment) × (m : ℕ) × stands s S m
 
 -- it stands before its first moment for some setting of this model, whose instants are not too many to be counted
 pub record IsAtStart (stands : Setting → Assignment → ℕ → Type 0) (model : FlatModel) : Type 0 where
