@@ -1,6 +1,7 @@
 pub mod Counts
 pub mod Files
 pub mod FilesInMemory
+pub mod NeverFailing
 pub mod Puts
 pub mod Reads
 pub mod TextInMemory

@@ -5,6 +5,8 @@
 mod gate;
 mod memory_shelf;
 mod memory_sink;
+mod no_fail_shelf;
+mod no_fail_sink;
 mod no_memory;
 mod shelf;
 mod sink;
@@ -14,6 +16,8 @@ mod whole;
 pub use gate::{Gate, OpenGate};
 pub use memory_shelf::MemShelf;
 pub use memory_sink::MemSink;
+pub use no_fail_shelf::NoFailShelf;
+pub use no_fail_sink::NoFailSink;
 pub use no_memory::NoMemory;
 pub use shelf::{Read, Shelf};
 pub use sink::{Put, Sink, WriteFailed, put_all};

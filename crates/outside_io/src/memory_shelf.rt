@@ -92,7 +92,7 @@ impl Shelf for MemShelf {
 }
 
 /// The first file of a name.
-fn file_of<'a>(files: &'a [(String, Vec<u8>)], name: &str) -> Option<&'a [u8]>
+pub(crate) fn file_of<'a>(files: &'a [(String, Vec<u8>)], name: &str) -> Option<&'a [u8]>
     ensures { option_map (λ file. file.now) result ≡ first_named name.now (files_of files.entry.now) }
 {
     for file in files {
@@ -104,7 +104,7 @@ fn file_of<'a>(files: &'a [(String, Vec<u8>)], name: &str) -> Option<&'a [u8]>
 }
 
 /// At most `chunk` bytes of a file from a place on.
-fn part_of(file: &[u8], at: u64, chunk: usize, into: &mut [u8]) -> Read
+pub(crate) fn part_of(file: &[u8], at: u64, chunk: usize, into: &mut [u8]) -> Read
     requires chunk { 0 < chunk }
     requires room { 0 < length into.old }
     ensures gives { Gives (File file.now) at into.new result }
