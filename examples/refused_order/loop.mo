@@ -1,9 +1,9 @@
 model Loop
   Integer pressure;
-  Integer flow;
+  Integer inflow;
 equation
   when Clock(1, 10) then
-    pressure = 100 - flow;
-    flow = div(pressure, 2);
+    pressure = 100 - inflow;
+    inflow = div(pressure, 2);
   end when;
 end Loop;

@@ -1,6 +1,6 @@
 //! Worked models: an assignment that meets each, its trace, and a changed one that does not meet it.
 //!
-//! Each function here is a law about the meaning of flat models; its body does nothing. The tests run whole commands.
+//! Each function here is a law about the meaning of flat models; its body does nothing.
 #![tactic(auto)]
 
 ghost use Rattle.clocked_rows.specs.ConvertedAside as converted_aside;
@@ -21,9 +21,6 @@ ghost use Rattle.clocked_rows.specs.TwoEquations as two_equations;
 ghost use Rattle.clocked_rows.specs.TwoSites as two_sites;
 ghost use Rattle.clocked_rows.specs.Undone as undone;
 ghost use Rattle.clocked_rows.specs.UnknownClock as unknown_clock;
-
-#[cfg(test)]
-mod tests;
 
 /// A counter on a clock of half a second is 1, 2 and 3 at the instants 0, 1/2 and 1, and does not stand still.
 #[tactic(auto, using(crate::proofs::Counter::instants, crate::proofs::Counter::met, crate::proofs::Counter::printed, crate::proofs::Counter::other_refused))]

@@ -1,9 +1,7 @@
-pub mod CommandLemmas
-pub mod Complete
-pub mod Ending
-pub mod FaultLines
-pub mod Refusing
-pub mod Right
-pub mod Spots
-pub mod StopLemmas
-pub mod ThreePieces
+mod Calls
+mod Causes
+mod Ending
+mod Pieces
+mod Runs
+mod Steps
+mod Tasks

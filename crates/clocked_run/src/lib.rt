@@ -1,16 +1,9 @@
-//! The top call: from the words of a command to the printed trace.
+//! The top call: from the words of a command and the files of a shelf to what is put on out and err, and the status.
 #![tactic(auto)]
 
-mod code;
-mod command;
-mod err_line;
-mod place;
-mod reading;
 mod report;
-mod status;
-mod stop;
+mod task;
 mod top;
 
-pub use code::Code;
-pub use status::Status;
+pub use command_answer::Status;
 pub use top::clocked_run;

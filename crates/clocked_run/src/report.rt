@@ -1,46 +1,31 @@
 ghost use Rattle.std.specs.Prelude.{◌≡◌, ◌≤◌, ◌++◌, codes};
-ghost use Rattle.clocked_run.specs.Lines.{usage_line};
-ghost use Rattle.clocked_run.specs.Stops.{IsPrintable, PutsLine, Reports};
+ghost use Rattle.command_stages.specs.Ends.{IsPrintable};
+ghost use Rattle.clocked_run.specs.private.Putting.{PutsLine, answer_of};
 
-use crate::command::UsageFault;
-use crate::err_line::ErrLine;
-use crate::status::Status;
-use crate::stop::Stop;
+use command_answer::Status;
+use command_stages::End;
 use outside_io::{Sink, put_all};
+use trace_print::refusal;
 
-/// Puts the line of a stop on err, and gives the status.
-pub fn report<E: Sink>(stop: &Stop<'_>, err: &mut E) -> Status
-    requires { IsPrintable stop.now }
-    ensures reports { Reports stop.now result (E.text err.old) (E.text err.new) (E.faults err.old) (E.faults err.new) }
+/// Puts the line of what ended a command early on err, and gives the status.
+pub fn report<E: Sink>(end: &End<'_>, err: &mut E) -> Status
+    requires { IsPrintable end.now }
+    ensures puts { PutsLine (answer_of end.now).status (answer_of end.now).err result (record { old = E.text err.old; new = E.text err.new; before = E.faults err.old; after = E.faults err.new }) }
     ensures counts { E.faults err.old ≤ E.faults err.new }
 {
-    match stop {
-        Stop::Usage(fault) => put_line(err, Status::Usage, usage_text(*fault)),
-        Stop::Refused { code, place } => {
-            let line = ErrLine::refusal(*code, place);
+    match end {
+        End::Usage(fault) => put_line(err, Status::Usage, fault.line().as_bytes()),
+        End::Refused { code, place } => {
+            let line = refusal(*code, place);
             put_line(err, Status::Refused, line.bytes())
         }
-        Stop::Faulted { kind, at, equation } => {
-            let line = ErrLine::fault(*kind, *at, *equation);
-            put_line(err, Status::Faulted, line.bytes())
-        }
-        Stop::ReadFault(name) => put_read_fault(err, name),
-        Stop::NoMemory => put_line(err, Status::NoMemory, b"no memory\n"),
-        Stop::OutFailed => Status::WriteFault,
-    }
-}
-
-fn usage_text(fault: UsageFault) -> &'static [u8]
-    ensures { result.now ≡ usage_line fault }
-{
-    match fault {
-        UsageFault::Words => b"usage: words\n",
-        UsageFault::Stop => b"usage: --stop\n",
+        End::ReadFault(name) => put_read_fault(err, name),
+        End::NoMemory => put_line(err, Status::NoMemory, b"no memory\n"),
     }
 }
 
 fn put_line<E: Sink>(err: &mut E, status: Status, line: &[u8]) -> Status
-    ensures puts { PutsLine status line.now result (E.text err.old) (E.text err.new) (E.faults err.old) (E.faults err.new) }
+    ensures puts { PutsLine status line.now result (record { old = E.text err.old; new = E.text err.new; before = E.faults err.old; after = E.faults err.new }) }
     ensures counts { E.faults err.old ≤ E.faults err.new }
 {
     match put_all(err, line) {
@@ -51,7 +36,7 @@ fn put_line<E: Sink>(err: &mut E, status: Status, line: &[u8]) -> Status
 
 /// Puts the line of a read fault in three pieces, so that it takes no memory.
 fn put_read_fault<E: Sink>(err: &mut E, name: &str) -> Status
-    ensures puts { PutsLine Status.ReadFault (codes "read fault: " ++ name.now ++ codes "\n") result (E.text err.old) (E.text err.new) (E.faults err.old) (E.faults err.new) }
+    ensures puts { PutsLine Status.ReadFault (codes "read fault: " ++ name.now ++ codes "\n") result (record { old = E.text err.old; new = E.text err.new; before = E.faults err.old; after = E.faults err.new }) }
     ensures counts { E.faults err.old ≤ E.faults err.new }
 {
     match put_all(err, b"read fault: ") {

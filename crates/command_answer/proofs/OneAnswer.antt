@@ -63,7 +63,7 @@ module _ (reads : List ℕ → Stage (List ℕ)) (files : (name : List ℕ) → 
   mode_one Run c flat is = both_one _ _ (clocking_one flat is) (λ clocking m. both_one _ _ (ordered_one flat clocking) (λ order n.
       both_one _ _ (table_one flat c.table is) (λ table k. both_one _ _ (counted_one clocking table c.stop) (λ _ l. both_one _ _ (timed_one clocking table c.stop) (λ instants h.
       let free = run_ordered flat clocking table instants is (is_answered flat clocking m) (is_table flat c.table table k) order (is_order flat clocking order n) in
-      end_one _ (runs_one _ _ free.0 free.1))))))
+      end_one _ (λ a b p q. runs_one _ _ free.0 free.1 a b p.0 q.0))))))
 
   pub actions_one : (words : List (List ℕ)) → IsOne (actions reads words)
   unfolding actions

@@ -4,10 +4,13 @@ use Rattle.rational_time.specs.declared.ratio.Ratio.{Ratio}
 use Rattle.flat_model.specs.declared.clock.Clocking.{Clocking}
 use Rattle.flat_model.specs.declared.model.FlatModel.{FlatModel}
 use Rattle.flat_model.specs.declared.table.Table.{Table}
+use Rattle.flat_model.specs.Assignment.{Assignment}
+use Rattle.flat_model.specs.Meets.{Meets}
 use Rattle.flat_model.specs.Models.{IsModel}
 use Rattle.flat_model.specs.Runs.{IsWholeRun, IsFaultedRun}
 use Rattle.flat_model.specs.Setting.{Setting}
 use Rattle.flat_model.specs.Tables.{IsTableOf}
+use Rattle.flat_model.specs.Trace.{trace_text}
 use Rattle.flat_model.specs.Uses.{Use}
 use Rattle.clock_sides.specs.Laws.{IsAnswered}
 use Rattle.clock_sides.proofs.Whole.{runnable}
@@ -22,7 +25,8 @@ use Rattle.moment_theory.proofs.Settled.{whole_none}
 use Rattle.moment_theory.proofs.Unheld.{unheld_pure}
 use Rattle.site_ready.proofs.Deciding.{there_is}
 use Rattle.site_ready.proofs.Unheld.{unheld}
-use Rattle.command_answer.specs.Actions.{Runs}
+use Rattle.command_answer.specs.declared.status.Status.TheVariants.{Done}
+use Rattle.command_answer.specs.Actions.{Runs, RunsAlone}
 use Rattle.command_answer.specs.Layers.{Orders}
 use Rattle.command_answer.specs.Stages.{Answer}
 
@@ -78,3 +82,28 @@ module _ (s : Setting) (uses free : List Use) (is : IsOrdered s uses free) where
   runs_one a b (inr (d, p)) (inr (e, q)) = let same = one_run s uses free is a.out a.err b.out b.err (inr p) (inr q) in same_answer a b (d ∙ sym e) same.0 same.1
   runs_one a b (inl (d, p)) (inr (e, q)) = absurd (never_both a.out a.err b.out b.err p q)
   runs_one a b (inr (d, p)) (inl (e, q)) = absurd (never_both b.out b.err a.out a.err q p)
+
+  -- and it is that of each assignment that meets the model
+  of_other : (answer : Answer) → Runs s answer → (T : Assignment) → Meets s T (length s.instants) → (answer.status ≡ Done) × (answer.out ≡ trace_text s.model.names T s.instants)
+  of_other answer runs T here =
+      let other : Answer = record { status = Done; out = trace_text s.model.names T s.instants; err = [] } in
+      let same : answer ≡ other = runs_one answer other runs (inl (refl, record { assignment = T; meets = here; out_is = refl; err_is = refl })) in
+      (ap (λ a. a.status) same, ap (λ a. a.out) same)
+
+  pub runs_alone : (answer : Answer) → Runs s answer → RunsAlone s answer
+  runs_alone answer runs = (
+    runs,
+    record {
+      trace = of_other answer runs;
+      fault = λ S T n place kind range fault here. whole_none s uses free is T S n n (omega arith) range here place kind fault;
+    },
+  )
+
+-- what a run of a model, its clocking and its table answers is alone
+pub run_alone : (flat : FlatModel) (clocking : Clocking) (table : Table) (instants : List Ratio) → IsModel flat → IsAnswered flat clocking → IsTableOf flat table
+    → (order : List answered.Use) → Orders flat clocking (Ok order)
+    → (answer : Answer) → Runs (record { model = flat; clocking = clocking; table = table; instants = instants }) answer
+    → RunsAlone (record { model = flat; clocking = clocking; table = table; instants = instants }) answer
+run_alone flat clocking table instants is_model is is_table order orders =
+    let free = run_ordered flat clocking table instants is_model is is_table order orders in
+    runs_alone (record { model = flat; clocking = clocking; table = table; instants = instants }) (map use_of order) free.0 free.1

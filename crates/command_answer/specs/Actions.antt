@@ -1,15 +1,21 @@
 -- The answer of a command: what it does, stage by stage, up to the one that ends it. This project's own.
-use Rattle.std.specs.Prelude.{◌≡◌, ℕ, ◌⊎◌, List, Option, Some, None}
+use Rattle.std.specs.Prelude.{◌≡◌, ℕ, ◌≤◌, ◌⊎◌, List, length, Option, Some, None}
 use Rattle.outside_io.specs.Files.{Told, File}
+use Rattle.sync_values.specs.declared.value.Fail.{Fail}
 use Rattle.command_words.specs.Choice.{Choice}
 use Rattle.command_words.specs.declared.command.Mode.{Mode}
 use Rattle.command_words.specs.declared.command.Mode.TheVariants.{Run, Flat, Clocks}
 use Rattle.flat_model.specs.declared.model.FlatModel.{FlatModel}
 use Rattle.flat_model.specs.declared.clock.Clocking.{Clocking}
+use Rattle.flat_model.specs.declared.fault.FaultPlace.{FaultPlace}
 use Rattle.flat_model.specs.declared.table.Table.{Table}
 use Rattle.flat_model.specs.declared.place.Place.TheVariants as place
-use Rattle.flat_model.specs.Setting.{Setting}
+use Rattle.flat_model.specs.Assignment.{Assignment}
+use Rattle.flat_model.specs.Faults.{IsFirstFault}
+use Rattle.flat_model.specs.Meets.{Meets}
 use Rattle.flat_model.specs.Runs.{IsWholeRun, IsFaultedRun}
+use Rattle.flat_model.specs.Setting.{Setting}
+use Rattle.flat_model.specs.Trace.{trace_text}
 use Rattle.trace_print.specs.Modes.{flat_text, clocks_text}
 use Rattle.command_answer.specs.declared.status.Status.TheVariants.{Done, Faulted}
 use Rattle.command_answer.specs.Layers.{asked, few, lexed, parsed, flattened, typed, termed, classed, solved, checked, ordered, tabled, untabled, counted, timed}
@@ -26,6 +32,15 @@ table_limit = 16777216
 -- a run puts its whole trace on out, or the rows before its first fault
 abbrev pub Runs : Setting → Answer → Type 0
 Runs s answer = ((answer.status ≡ Done) × IsWholeRun s answer.out answer.err) ⊎ ((answer.status ≡ Faulted) × IsFaultedRun s answer.out answer.err)
+
+-- no other assignment gives another answer: one that meets the model at all moments has this trace and no fault, and none meets it up to a moment at which something is the first to fail
+pub record IsAlone (s : Setting) (answer : Answer) : Type 0 where
+  pub trace : (T : Assignment) → Meets s T (length s.instants) → (answer.status ≡ Done) × (answer.out ≡ trace_text s.model.names T s.instants)
+  pub fault : (S T : Assignment) (n : ℕ) (place : FaultPlace) (kind : Fail) → n ≤ length s.instants → IsFirstFault s S n place kind → Meets s T n → ⊥
+
+-- the answer of a run
+abbrev pub RunsAlone : Setting → Answer → Type 0
+RunsAlone s answer = Runs s answer × IsAlone s answer
 
 -- the only clocking of a model
 unfoldable pub clocking_of : FlatModel → Stage Clocking
@@ -66,7 +81,7 @@ module _ (reads : List ℕ → Stage (List ℕ)) where
     table ← table_of flat c.table
     counted clocking table c.stop
     instants ← timed clocking table c.stop
-    ends_with (Runs (record { model = flat; clocking = clocking; table = table; instants = instants }))
+    ends_with (RunsAlone (record { model = flat; clocking = clocking; table = table; instants = instants }))
 
   -- the order of actions
   unfoldable pub actions : List (List ℕ) → Stage (Unit {0})

@@ -8,8 +8,6 @@ mod flat_models;
 #[cfg(test)]
 mod fractions;
 #[cfg(test)]
-mod one_clock_models;
-#[cfg(test)]
 mod outside;
 #[cfg(test)]
 mod tokens;

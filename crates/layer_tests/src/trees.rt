@@ -12,7 +12,7 @@ fn tokens_of(rt: &impl Abort, alloc: Global, text: &[u8]) -> List<Token> {
 }
 
 /// The tree of a text of tokens, or how it ends.
-pub fn parsed(rt: &impl Abort, alloc: Global, text: &[u8]) -> Result<Tree, ParseEnd> {
+fn parsed(rt: &impl Abort, alloc: Global, text: &[u8]) -> Result<Tree, ParseEnd> {
     parse(alloc, text, &tokens_of(rt, alloc, text))
 }
 

@@ -210,8 +210,8 @@ module _ (s : Setting) (runs : IsRunnable s) (keys : List CellKey) (class : ℕ)
   boolean_kind (Some kind.Clock) type e is = absurd (false≢true is)
   boolean_kind None type e is = absurd (false≢true is)
 
-  one_line : (uses : List Use) (entry : Use) (l : Line) → l.name ≡ entry.name → IsSideUse s entry l.side class → (AreLaid keys class (l ∷ [])) → IsLine cells (length keys) l
-  one_line uses entry l name is laid_l =
+  one_line : (uses : List Use) (entry : Use) (own : ℕ) (l : Line) → l.name ≡ entry.name → IsSideUse s entry l.side own → (AreLaid keys class (l ∷ [])) → IsLine cells (length keys) l
+  one_line uses entry own l name is laid_l =
       let typed : IsTyped types (sided is.first entry.name l.side is.clause) = all_at (IsTyped types) s.model.equations entry.equation (sided is.first entry.name l.side is.clause) runs.model.typed.equations is.found in
       let of = side_typed types is.first entry.name l.side is.clause typed in
       let side_type : type_of types l.side ≡ Some of.0 = whole_typed types l.side of.0 of.2 in
@@ -228,11 +228,11 @@ module _ (s : Setting) (runs : IsRunnable s) (keys : List CellKey) (class : ℕ)
             typed_truth types cells (marked keys s.model.names class) l.side (side_type ∙ ap Some boolean) has;
       }
 
-  all_celled : (uses entries : List Use) (ls : List Line) → AreLinesOf s uses class entries ls → AreLaid keys class ls → AreCelled cells (length keys) ls
-  all_celled uses [] [] lines laid_ls = tt
-  all_celled uses [] (l ∷ ls) lines laid_ls = absurd lines
-  all_celled uses (entry ∷ entries) [] lines laid_ls = tt
-  all_celled uses (entry ∷ entries) (l ∷ ls) lines laid_ls = (one_line uses entry l lines.0.1 lines.0.2 (laid_ls.0, tt), all_celled uses entries ls lines.1 laid_ls.1)
+  all_celled : (uses entries : List Use) (own : ℕ) (ls : List Line) → AreLinesOf s uses own entries ls → AreLaid keys class ls → AreCelled cells (length keys) ls
+  all_celled uses [] own [] lines laid_ls = tt
+  all_celled uses [] own (l ∷ ls) lines laid_ls = absurd lines
+  all_celled uses (entry ∷ entries) own [] lines laid_ls = tt
+  all_celled uses (entry ∷ entries) own (l ∷ ls) lines laid_ls = (one_line uses entry own l lines.0.1 lines.0.2 (laid_ls.0, tt), all_celled uses entries own ls lines.1 laid_ls.1)
 
 pub is_table : (s : Setting) → IsRunnable s → (keys : List CellKey) (class : ℕ) → IsTable s keys class (keyed_cells keys s.model.names class)
 is_table s runs keys class = record {

@@ -27,12 +27,12 @@ abbrev pub AreLaid : List CellKey → ℕ → List Line → Type 0
 AreLaid keys class [] = Unit {0}
 AreLaid keys class (l ∷ ls) = ((cell_of keys (Value l.name) ≡ Some l.cell) × HasAll keys (keys_read l.side class Now)) × AreLaid keys class ls
 
--- the table of the cells of keys, as an equation of a class has it, is one over which code of uses may run
+-- the table of the cells of keys, as an equation has it whose clock has this number in keys, is one over which code of uses of any class may run
 pub record IsTable (s : Setting) (keys : List CellKey) (class : ℕ) (at : Cells) : Type 0 where
   pub laid : IsLaidOut at
   pub apart : AreApart at
   pub booleans : AreBooleans s at
-  pub celled : (uses entries : List Use) (ls : List Line) → AreLinesOf s uses class entries ls → AreLaid keys class ls → AreCelled at (length keys) ls
+  pub celled : (uses entries : List Use) (own : ℕ) (ls : List Line) → AreLinesOf s uses own entries ls → AreLaid keys class ls → AreCelled at (length keys) ls
   pub clock : (ls : List Line) → AreLaid keys class ls → AreNoClockCells at ls
 
 abbrev pub TableLaw : Type 0

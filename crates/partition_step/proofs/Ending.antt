@@ -1,6 +1,6 @@
 -- What a step leaves.
 use Rattle.std.proofs.Common.{◌≡◌, ◌≢◌, refl, ap, ap₂, ◌∙◌, sym, subst, ℕ, suc, Bool, true, false, if◌then◌else◌, List, length, Option, Some, None, slice_get, unwrap_or, arith}
-use Rattle.std.specs.Prelude.{option_map}
+use Rattle.std.specs.Prelude.{option_map, IfSome}
 use Rattle.std.proofs.lemmas.Option.{same_Some, slice_get-map, slice_get_within, slice_get_past}
 use Rattle.sync_values.specs.declared.value.Value.{Value}
 use Rattle.rational_time.specs.declared.ratio.Ratio.{Ratio}
@@ -31,8 +31,11 @@ use Rattle.partition_step.specs.declared.part.Outcome.TheVariants.{Stepped, Fail
 use Rattle.partition_step.specs.declared.part.Part.{Part}
 use Rattle.partition_step.specs.Parts.{IsLaid, IsPartOf, IsTickedAt, KeepsTick, StandsFor, names_of, numbers_of, clocks_of}
 use Rattle.partition_step.specs.Steps.{Telling, IsStepStart, failing_in, GoesOnWith, HasStepped}
+use Rattle.part_code.specs.Coded.{IsCodeOf}
+use Rattle.partition_step.specs.private.Coding.{IsSameOption}
 use Rattle.partition_step.specs.private.Stepping.{told_at, begun_at, kept_cell, ticked_class, ticked_from, ticked_at}
 use Rattle.partition_step.specs.private.Writing.{IsWritten}
+use Rattle.partition_step.proofs.SameCode.{same_option}
 use Rattle.partition_step.proofs.Intervals.{rests_at_initial}
 use Rattle.partition_step.proofs.Lists.{lists_same, none_past, some_at, at_map, map_kept, written_none, written_at, written_back}
 use Rattle.partition_step.proofs.Placing.{own_there, there, at_among, own_among, own_reached, entry_of_reached, CellOf, entry_of_cell}
@@ -172,7 +175,7 @@ module _ (s : Setting) (uses before own after : List Use) (partition : ℕ) (S :
     final_names : names_of final ≡ names_of part.cells.items
     final_names = map_kept (λ c. c.name) write taken final writes (λ i c found. names i c) ∙ names_same
 
-    module _ (new : Part) (entries_are : new.entries ≡ part.entries) (cells_are : new.cells.items ≡ final) (room : length new.clocks.items ≡ length new.classes.items)
+    module _ (new : Part) (entries_are : new.entries ≡ part.entries) (cells_are : new.cells.items ≡ final) (room : length new.clocks.items ≡ length new.classes.items) (code_same : IsSameOption part.code new.code)
         (numbers : numbers_of new.classes.items ≡ numbers_of part.classes.items) (kinds : clocks_of new.classes.items ≡ clocks_of part.classes.items) where
       part_same : IsPartOf s own telling.places new
       part_same = record {
@@ -181,6 +184,7 @@ module _ (s : Setting) (uses before own after : List Use) (partition : ℕ) (S :
             (subst (λ ns. IsLaid s own telling.places part.entries (names_of part.cells.items) ns (clocks_of new.classes.items)) (sym numbers)
             (subst (λ ks. IsLaid s own telling.places part.entries (names_of part.cells.items) (numbers_of part.classes.items) ks) (sym kinds) laid)));
         room = room;
+        coded = subst (λ es. IfSome new.code (IsCodeOf s.model.equations s.model.names es)) (sym entries_are) (same_option s.model.equations s.model.names part.entries part.code new.code code_same start.part_of.coded);
       }
 
       stepped_with : (outcome : Outcome) → failing_in outcome ≡ result → (outcome ≡ Stepped → (T : Assignment) → GoesOnWith s own S m row telling T → StandsFor s T (suc m) new) → HasStepped s uses own S m base telling new outcome
@@ -195,10 +199,10 @@ module _ (s : Setting) (uses before own after : List Use) (partition : ℕ) (S :
 
   -- ---- with a failure
 
-  pub fails : (new : Part) (failing : EquationFailing) → result ≡ Some failing → new.entries ≡ part.entries → new.cells.items ≡ taken → new.classes.items ≡ part.classes.items → length new.clocks.items ≡ length part.clocks.items
+  pub fails : (new : Part) (failing : EquationFailing) → IsSameOption part.code new.code → result ≡ Some failing → new.entries ≡ part.entries → new.cells.items ≡ taken → new.classes.items ≡ part.classes.items → length new.clocks.items ≡ length part.clocks.items
       → HasStepped s uses own S m base telling new (Failed failing)
-  fails new failing told entries_are cells_are classes_are long_clocks =
-      stepped_with (λ i c. c) taken (written_none (λ i c. c) taken (λ i c. refl)) (λ i c. refl) (λ i c. refl) new entries_are cells_are (long_clocks ∙ start.part_of.room ∙ sym (ap length classes_are)) (ap numbers_of classes_are) (ap clocks_of classes_are)
+  fails new failing code_same told entries_are cells_are classes_are long_clocks =
+      stepped_with (λ i c. c) taken (written_none (λ i c. c) taken (λ i c. refl)) (λ i c. refl) (λ i c. refl) new entries_are cells_are (long_clocks ∙ start.part_of.room ∙ sym (ap length classes_are)) code_same (ap numbers_of classes_are) (ap clocks_of classes_are)
       (Failed failing) (sym told) (λ same. absurd cc)
 
   -- ---- with none
@@ -251,10 +255,10 @@ module _ (s : Setting) (uses before own after : List Use) (partition : ℕ) (S :
         let (was, was_found, is) = written_back (ticked_at telling.moment clocks) part.classes.items noted j kept notes found in
         subst (KeepsTick s T (suc m)) (sym is) (tick_next telling.moment refl j was was_found)
 
-  pub steps : (new : Part) (final : List Cell) → IsWritten kept_cell taken final → (noted : List ClassKept) → IsWritten (ticked_at telling.moment clocks) part.classes.items noted
+  pub steps : (new : Part) (final : List Cell) → IsSameOption part.code new.code → IsWritten kept_cell taken final → (noted : List ClassKept) → IsWritten (ticked_at telling.moment clocks) part.classes.items noted
       → result ≡ None → new.entries ≡ part.entries → new.cells.items ≡ final → new.classes.items ≡ noted → length new.clocks.items ≡ length part.clocks.items → HasStepped s uses own S m base telling new Stepped
-  steps new final keeps noted notes told entries_are cells_are classes_are long_clocks =
-      stepped_with kept_cell final keeps (λ i c. refl) (λ i c. refl) new entries_are cells_are (long_clocks ∙ start.part_of.room ∙ sym notes.size ∙ sym (ap length classes_are))
+  steps new final code_same keeps noted notes told entries_are cells_are classes_are long_clocks =
+      stepped_with kept_cell final keeps (λ i c. refl) (λ i c. refl) new entries_are cells_are (long_clocks ∙ start.part_of.room ∙ sym notes.size ∙ sym (ap length classes_are)) code_same
       (ap numbers_of classes_are ∙ map_kept (λ k. k.class) (ticked_at telling.moment clocks) part.classes.items noted notes (λ j k found. number_kept telling.moment clocks j k))
       (ap clocks_of classes_are ∙ map_kept (λ k. k.clock) (ticked_at telling.moment clocks) part.classes.items noted notes (λ j k found. kind_kept telling.moment clocks j k))
       Stepped (sym told) (λ same T on. record {

@@ -1,3 +1,4 @@
+pub mod SameCode
 pub mod Ending
 pub mod Intervals
 pub mod Laid

@@ -1,6 +1,6 @@
 -- Uses that are laid out are a part that stands before the first moment.
 use Rattle.std.proofs.Common.{◌≡◌, refl, ap, ◌∙◌, sym, subst, ℕ, zero, suc, ◌<◌, List, [], ◌∷◌, ◌++◌, length, map, Option, Some, None, slice_get, unwrap_or, Contains, inl, inr, arith}
-use Rattle.std.specs.Prelude.{option_map}
+use Rattle.std.specs.Prelude.{option_map, IfSome}
 use Rattle.std.proofs.lemmas.Option.{none-some, same_Some, slice_get-map, slice_get_within, slice_get_past}
 use Rattle.flat_model.specs.declared.clock.Clock.TheVariants.{Event}
 use Rattle.flat_model.specs.declared.clock.Clocking.{Clocking}
@@ -18,6 +18,7 @@ use Rattle.moment_theory.specs.Free.{IsReachedBy, AreFree}
 use Rattle.moment_theory.proofs.FromRunnable.{all_at}
 use Rattle.moment_theory.proofs.Members.{IsMember, member_contains}
 use Rattle.moment_theory.proofs.Pieces.{free_back}
+use Rattle.part_code.specs.Coded.{IsCodeOf}
 use Rattle.tree_step.specs.declared.cell.Cell.{Cell}
 use Rattle.tree_step.specs.declared.taking.Entry.{Entry}
 use Rattle.tree_step.specs.Cells.{cell_in}
@@ -144,14 +145,15 @@ module _ (own : List Use) (entries : List Entry) (classes : List ClassKept) (cel
         (use_of taken, own_has k taken use_found, in_partition k taken use_found ∙ ap Some (ap (λ d. d.class) (sym is) ∙ number));
   }
 
-  pub prepared : (part : Part) → part.entries ≡ entries → part.cells.items ≡ cells → part.classes.items ≡ classes → length part.clocks.items ≡ length part.classes.items
+  pub prepared : (part : Part) → part.entries ≡ entries → part.cells.items ≡ cells → part.classes.items ≡ classes → length part.clocks.items ≡ length part.classes.items → IfSome part.code (IsCodeOf s.model.equations s.model.names part.entries)
       → IsPartOf s (map use_of own) places part × ((S : Assignment) → StandsFor s S 0 part)
-  prepared part entries_are part_cells part_classes room = (
+  prepared part entries_are part_cells part_classes room coded = (
     record {
       laid = subst (λ es. IsLaid s (map use_of own) places es (names_of part.cells.items) (numbers_of part.classes.items) (clocks_of part.classes.items)) (sym entries_are)
           (subst (λ cs. IsLaid s (map use_of own) places entries (names_of cs) (numbers_of part.classes.items) (clocks_of part.classes.items)) (sym part_cells)
           (subst (λ ks. IsLaid s (map use_of own) places entries (names_of cells) (numbers_of ks) (clocks_of ks)) (sym part_classes) is_laid));
       room = room;
+      coded = coded;
     },
     λ S. record {
       values = λ i cell found.
@@ -166,10 +168,10 @@ module _ (own : List Use) (entries : List Entry) (classes : List ClassKept) (cel
 -- ---- the whole
 
 pub prepares : (flat : FlatModel) (clocking : Clocking) (own : List Use) (old new : List ℕ) (part : Part)
-    → AreLaidOut clocking own (length own) part.entries part.classes.items → part.cells.items ≡ map (new_cell flat.names) own → length part.clocks.items ≡ length part.classes.items
+    → AreLaidOut clocking own (length own) part.entries part.classes.items → part.cells.items ≡ map (new_cell flat.names) own → length part.clocks.items ≡ length part.classes.items → IfSome part.code (IsCodeOf flat.equations flat.names part.entries)
     → (AreOnce own → (i : ℕ) (entry : Use) → slice_get own i ≡ Some entry → entry.name < length old → slice_get new entry.name ≡ Some i)
     → IsPrepared flat clocking own old new part
-prepares flat clocking own old new part laid cells room places s uses before after partition from =
+prepares flat clocking own old new part laid cells room coded places s uses before after partition from =
     let free = free_back s before (map use_of own ++ after) from.piece.ordered.free in
     let once : AreOnce own = λ i j one other one_at other_at same. free_once s (map use_of own) after free i j (use_of one) (use_of other) (at_map use_of own i one one_at) (at_map use_of own j other other_at) same in
     prepared own part.entries part.classes.items part.cells.items new s uses before after partition
@@ -180,7 +182,7 @@ prepares flat clocking own old new part laid cells room places s uses before aft
     let facts = use_facts s uses before (map use_of own) after partition from.piece (use_of entry) (own_contains own i entry found) in
     let within = slice_get_within s.model.names entry.name facts.name facts.name_found in
     let wide = from.wide in omega (arith, within, wide)))
-    part refl refl refl room
+    part refl refl refl room (subst (λ model. IfSome part.code (IsCodeOf model.equations model.names part.entries)) (sym from.model) coded)
   where
     own_contains : (own : List Use) (i : ℕ) (entry : Use) → slice_get own i ≡ Some entry → Contains (map use_of own) (use_of entry)
     own_contains own i entry found = contains_at (map use_of own) i (use_of entry) (at_map use_of own i entry found)

@@ -69,6 +69,7 @@ places s own old new part of same =
         from_use = laid.from_use;
       };
       room = of.room;
+      coded = of.coded;
     }
 
 -- a name that is not reached has no cell

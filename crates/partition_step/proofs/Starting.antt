@@ -1,6 +1,6 @@
 -- What is written at a step is a start of the uses.
-use Rattle.std.proofs.Common.{◌≡◌, refl, ap, ◌∙◌, sym, subst, ℕ, zero, suc, ◌+◌, ◌<◌, Bool, true, false, List, ◌++◌, Option, Some, None, is_none, slice_get, ◌⊎◌, inl, inr, arith}
-use Rattle.std.proofs.lemmas.Option.{none-some, same_Some, slice_get_within}
+use Rattle.std.proofs.Common.{◌≡◌, refl, ap, ◌∙◌, sym, subst, ℕ, zero, suc, ◌+◌, ◌<◌, Bool, true, false, List, ◌++◌, Option, Some, None, is_none, slice_get, get_or, Contains, All, ◌⊎◌, inl, inr, arith}
+use Rattle.std.proofs.lemmas.Option.{none-some, same_Some, slice_get_within, slice_get-get_or}
 use Rattle.sync_values.specs.declared.value.Value.TheVariants as value
 use Rattle.flat_model.specs.declared.clock.Clock.{Clock}
 use Rattle.flat_model.specs.declared.clock.Clock.TheVariants.{Periodic, Event}
@@ -23,6 +23,10 @@ use Rattle.moment_theory.specs.Free.{IsReachedBy, AsksLastIn, IsOrdered}
 use Rattle.moment_theory.specs.Sound.{IsClear}
 use Rattle.moment_theory.proofs.Meeting.{IsValued, IsSideClassed}
 use Rattle.moment_theory.proofs.Unknown.{known_where_ticks}
+use Rattle.side_theory.specs.Sides.{sided}
+use Rattle.part_words.specs.Words.{IsMeasuredClock}
+use Rattle.part_code.specs.Coded.{IsSideOf}
+use Rattle.coded_step.specs.Taking.{IsSampledBy, IsCodeStart}
 use Rattle.tree_step.specs.declared.cell.Cell.{Cell}
 use Rattle.tree_step.specs.declared.frame.ClockNow.{ClockNow}
 use Rattle.tree_step.specs.declared.taking.Entry.{Entry}
@@ -32,11 +36,11 @@ use Rattle.tree_step.specs.Starts.{Sight, use_of, uses_of, IsAmong, HasCell, Kee
 use Rattle.partition_step.specs.declared.part.ClassKept.{ClassKept}
 use Rattle.partition_step.specs.declared.part.Part.{Part}
 use Rattle.partition_step.specs.Parts.{IsLaid, KeepsTick, names_of, numbers_of, clocks_of}
-use Rattle.partition_step.specs.Steps.{Telling, IsSampleTold, IsStepStart}
+use Rattle.partition_step.specs.Steps.{Telling, IsSampleTold, AreSamplesTold, IsStepStart}
 use Rattle.partition_step.specs.private.Stepping.{elapsed_at, told_clock, told_from, told_at, standing_by, standing_of, standing_in, standing_at, begun, begun_at}
 use Rattle.partition_step.specs.private.Writing.{IsWritten}
 use Rattle.partition_step.proofs.Intervals.{instant_of, first_is, interval_is, measured_is}
-use Rattle.partition_step.proofs.Lists.{some_at, written_at, written_back}
+use Rattle.partition_step.proofs.Lists.{some_at, at_map, written_at, written_back}
 use Rattle.partition_step.proofs.Placing.{own_there, there, at_among, own_among, own_reached, entry_of_reached, ClassOf, class_of, CellOf, cell_of, entry_of_cell}
 use Rattle.partition_step.proofs.Reaching.{facts, reached_within, previous_valued}
 use Rattle.partition_step.proofs.Uncut.{previous_uncut}
@@ -282,3 +286,54 @@ module _ (s : Setting) (uses before own after : List Use) (partition : ℕ) (S :
     holds = holds;
     each = entry_is;
   }
+
+  -- ---- a start of their code
+
+  same_class : (a d : Entry) → IsAmong a part.entries → IsAmong d part.entries → a.clock ≡ d.clock → class_of_equation s a.equation ≡ class_of_equation s d.equation
+  same_class a d in_a in_d same =
+      let kept : (class_at a in_a).kept ≡ (class_at d in_d).kept = same_Some (class_at a in_a).kept (class_at d in_d).kept (sym (class_at a in_a).found ∙ ap (slice_get classes) same ∙ (class_at d in_d).found) in
+      (class_at a in_a).of_equation ∙ ap (λ k. Some k.class) kept ∙ sym (class_at d in_d).of_equation
+
+  kept_at : (i : ℕ) (cell : Cell) → slice_get cells i ≡ Some cell → KeepsLast s S m cell.name cell
+  kept_at i cell found =
+      let (was, was_found, written) = written_back (begun_at telling.answers classes clocks part.entries) part.cells.items cells i cell begins found in
+      subst (λ d. KeepsLast s S m d.name d) (sym written) (start.stands.values i was was_found)
+
+  sampled : (e : Entry) → IsAmong e part.entries → (side : Expr) → IsSideOf telling.equations e side → IsSampledBy s S m sight side
+  sampled e among side of =
+      let samples = start.told.samples (use_of e) (sided of.first e.name side of.clause) (own_among s own telling.places part.entries part.cells.items classes laid e among) (ap (λ es. slice_get es e.equation) (sym start.told.model) ∙ of.found) in
+      by_first of.first samples
+    where
+      by_first : (first : Bool) → AreSamplesTold s S m telling.left (sided first e.name side of.clause) → IsSampledBy s S m sight side
+      by_first true both = record { now = both.1.now; last = both.1.last }
+      by_first false both = record { now = both.0.now; last = both.0.last }
+
+  pub code_starts : IsCodeStart s uses before after partition S m base sight part.entries cells
+  code_starts = record {
+    start = starts;
+    of = in_partition;
+    whole = λ entry used within. subst (λ us. Contains us entry) (sym laid.uses_are) (start.piece.whole entry used within);
+    one_class = same_class;
+    named = λ i cell found.
+        let (was, was_found, written) = written_back (begun_at telling.answers classes clocks part.entries) part.cells.items cells i cell begins found in
+        let (e, entry_found, named) = entry_of_cell s own telling.places part.entries part.cells.items classes laid i was was_found in
+        (e, entry_found, ap (λ d. d.name) written ∙ named);
+    placed = λ i e found. laid.placed i e.name (ap (λ ns. slice_get ns i) laid.names_are ∙ at_map (λ d. d.name) part.entries i e found);
+    keeps = kept_at;
+    samples = λ e side among of. sampled e among side of;
+  }
+
+  -- what is told of a clock that ticks can be measured
+  clock_measured : (j : ℕ) (clock : ClockNow) → slice_get clocks j ≡ Some clock → IsMeasuredClock clock
+  clock_measured j clock found ticking =
+      let (kept, kept_found) = some_at classes j (let within = slice_get_within clocks j clock found in let size = tells.size in let room = start.part_of.room in omega (arith, within, size, room)) in
+      let (old, is) = clock_told j kept kept_found in
+      let same : clock ≡ told_clock telling.ticks telling.moment kept old = same_Some clock (told_clock telling.ticks telling.moment kept old) (sym found ∙ is) in
+      let ticks = sym (start.told.ticks kept.class) ∙ ap (λ k. k.ticks) (sym same) ∙ ticking in
+      let (at, moment) = instant_of s B m kept.class telling.moment start.told.here ticks in
+      subst (λ k. IsMeasurable (told_elapsed k.first k.interval)) (sym same)
+      (subst (λ at_moment. IsMeasurable (told_elapsed (is_none kept.ticked) (elapsed_at kept.clock kept.ticked at_moment old.interval))) (sym moment)
+      (measured_is s m at (start.told.here ∙ ap Some moment) (class_ticks s S (Some kept.class)) old.interval start.measured kept.ticked (start.stands.ticks j kept kept_found) kept.clock))
+
+  pub all_measured : All IsMeasuredClock clocks
+  all_measured = λ j d within. clock_measured j (get_or clocks j d) (slice_get-get_or clocks j d within)

@@ -1,21 +1,29 @@
 -- A step, from what each of its calls leaves.
-use Rattle.std.proofs.Common.{◌≡◌, refl, ap, ◌∙◌, sym, subst, ℕ, List, length, Option, Some, None}
+use Rattle.std.proofs.Common.{◌≡◌, refl, ap, ◌∙◌, sym, subst, ℕ, List, length, Option, Some, None, All}
+use Rattle.std.specs.Prelude.{IfSome}
 use Rattle.std.specs.Vec.{with_items}
 use Rattle.std.proofs.lemmas.List.{with_items_is}
+use Rattle.flat_model.specs.Setting.{Setting}
+use Rattle.flat_model.specs.Uses.{Use}
 use Rattle.first_failure.specs.declared.least.EquationFailing.{EquationFailing}
 use Rattle.tree_step.specs.declared.cell.Cell.{Cell}
 use Rattle.tree_step.specs.declared.frame.ClockNow.{ClockNow}
 use Rattle.tree_step.specs.declared.taking.Entry.{Entry}
 use Rattle.tree_step.specs.Starts.{Sight, CanStart}
-use Rattle.tree_step.specs.Takes.{TakesUses}
+use Rattle.part_code.specs.declared.coded.Coded.{Coded}
+use Rattle.part_code.specs.Coded.{IsCodeOf}
+use Rattle.coded_step.specs.Taking.{CanTakeCode}
 use Rattle.partition_step.specs.declared.part.ClassKept.{ClassKept}
 use Rattle.partition_step.specs.declared.part.Outcome.TheVariants.{Stepped, Failed}
 use Rattle.partition_step.specs.declared.part.Part.{Part}
+use Rattle.part_words.specs.Words.{IsMeasuredClock}
+use Rattle.partition_step.specs.Parts.{IsPartOf}
 use Rattle.partition_step.specs.Steps.{Telling, CanStep, StepsFrom}
+use Rattle.partition_step.specs.private.Coding.{TakesAny, IsSameOption}
 use Rattle.partition_step.specs.private.Stepping.{told_at, begun_at, kept_cell, ticked_at}
 use Rattle.partition_step.specs.private.Writing.{IsWritten}
 use Rattle.partition_step.proofs.Ending.{fails, steps}
-use Rattle.partition_step.proofs.Starting.{starts}
+use Rattle.partition_step.proofs.Starting.{starts, code_starts, all_measured}
 
 -- what was written to one list over one other was written to the same
 same_written : {A : Type 0} (write other : ℕ → A → A) (old from new to : List A) → other ≡ write → from ≡ old → to ≡ new → IsWritten other from to → IsWritten write old new
@@ -65,13 +73,32 @@ module _ (telling : Telling) (part : Part) (now_clocks : List ClockNow) (now_cel
         start = starts can.s can.uses can.before can.own can.after can.partition can.S can.m can.base telling part can.start now_clocks b.tells now_cells b.begins;
       })))
 
+  -- any code can be taken
+  code_now : (sight : Sight) (equations_are : sight.equations ≡ telling.equations) (clocks_are : sight.clocks ≡ now_clocks) → CanStep telling part → (cells : List Cell) (o : Option Coded) → part.code ≡ o → IfSome o (CanTakeCode sight part.entries cells)
+  code_now sight equations_are clocks_are can cells None none = tt
+  code_now sight equations_are clocks_are can cells (Some code) some = record {
+    s = can.s;
+    code_of = subst (λ qs. IsCodeOf qs can.s.model.names part.entries code) (sym (equations_are ∙ can.start.told.model))
+        (subst (λ o. IfSome o (IsCodeOf can.s.model.equations can.s.model.names part.entries)) some can.start.part_of.coded);
+    measured = subst (All IsMeasuredClock) (sym clocks_are) (all_measured can.s can.uses can.before can.own can.after can.partition can.S can.m can.base telling part can.start now_clocks b.tells now_cells b.begins);
+  }
+
+  pub can_code : CanStep telling part → (clocks : List ClockNow) (entries : List Entry) (cells : List Cell) → clocks ≡ (with_items part.clocks now_clocks).items → entries ≡ part.entries
+      → IfSome part.code (CanTakeCode (record { equations = telling.equations; places = telling.places; left = telling.left; clocks = clocks }) entries cells)
+  can_code can clocks entries cells clocks_are entries_are =
+      subst (λ es. IfSome part.code (CanTakeCode (record { equations = telling.equations; places = telling.places; left = telling.left; clocks = clocks }) es cells)) (sym entries_are)
+      (code_now (record { equations = telling.equations; places = telling.places; left = telling.left; clocks = clocks }) refl (clocks_are ∙ clocks_now) can cells part.code refl)
+
   module _ (clocks : List ClockNow) (entries : List Entry) (cells taken : List Cell) (result : Option EquationFailing) (clocks_are : clocks ≡ (with_items part.clocks now_clocks).items) (entries_are : entries ≡ part.entries) (cells_are : cells ≡ (with_items part.cells now_cells).items)
-      (takes : TakesUses (record { equations = telling.equations; places = telling.places; left = telling.left; clocks = clocks }) entries cells taken result) (size : length taken ≡ length cells) where
-    takes_now : TakesUses sight_now part.entries now_cells taken result
+      (takes : TakesAny (record { equations = telling.equations; places = telling.places; left = telling.left; clocks = clocks }) entries cells taken part.code result) (size : length taken ≡ length cells) (code : Option Coded) (code_same : IsSameOption part.code code) where
+    takes_now : TakesAny sight_now part.entries now_cells taken part.code result
     takes_now =
-        subst (λ cs. TakesUses sight_now part.entries cs taken result) (cells_are ∙ cells_now)
-        (subst (λ e. TakesUses sight_now e cells taken result) entries_are
-        (subst (λ k. TakesUses (record { equations = telling.equations; places = telling.places; left = telling.left; clocks = k }) entries cells taken result) (clocks_are ∙ clocks_now) takes))
+        subst (λ cs. TakesAny sight_now part.entries cs taken part.code result) (cells_are ∙ cells_now)
+        (subst (λ e. TakesAny sight_now e cells taken part.code result) entries_are
+        (subst (λ k. TakesAny (record { equations = telling.equations; places = telling.places; left = telling.left; clocks = k }) entries cells taken part.code result) (clocks_are ∙ clocks_now) takes))
+
+    coded_now : (s : Setting) (own : List Use) → IsPartOf s own telling.places part → telling.equations ≡ s.model.equations → IfSome part.code (IsCodeOf telling.equations s.model.names part.entries)
+    coded_now s own of same = subst (λ qs. IfSome part.code (IsCodeOf qs s.model.names part.entries)) (sym same) of.coded
 
     long : length taken ≡ length now_cells
     long = size ∙ ap length (cells_are ∙ cells_now)
@@ -83,24 +110,24 @@ module _ (telling : Telling) (part : Part) (now_clocks : List ClockNow) (now_cel
     room = ap length clocks_now ∙ b.tells.size
 
     pub steps_some : (failing : EquationFailing) → result ≡ Some failing
-        → StepsFrom telling part (record { entries = part.entries; cells = with_items (with_items part.cells now_cells) taken; classes = part.classes; clocks = with_items part.clocks now_clocks }) (Failed failing)
+        → StepsFrom telling part (record { entries = part.entries; cells = with_items (with_items part.cells now_cells) taken; classes = part.classes; clocks = with_items part.clocks now_clocks; code = code }) (Failed failing)
     steps_some failing told s uses before own after partition S m base start =
         fails s uses before own after partition S m base telling part start now_clocks b.tells now_cells b.begins taken result long
-        (takes_now s uses before after S m base (starts s uses before own after partition S m base telling part start now_clocks b.tells now_cells b.begins))
-        (record { entries = part.entries; cells = with_items (with_items part.cells now_cells) taken; classes = part.classes; clocks = with_items part.clocks now_clocks })
-        failing told refl taken_now refl room
+        (takes_now s uses before after partition S m base (code_starts s uses before own after partition S m base telling part start now_clocks b.tells now_cells b.begins) (coded_now s own start.part_of start.told.model))
+        (record { entries = part.entries; cells = with_items (with_items part.cells now_cells) taken; classes = part.classes; clocks = with_items part.clocks now_clocks; code = code })
+        failing code_same told refl taken_now refl room
 
     pub steps_none : result ≡ None → (from final : List Cell) → from ≡ (with_items (with_items part.cells now_cells) taken).items → IsWritten kept_cell from final
         → (clocks_again : List ClockNow) (old noted : List ClassKept) → clocks_again ≡ (with_items part.clocks now_clocks).items → old ≡ part.classes.items → IsWritten (ticked_at telling.moment clocks_again) old noted
-        → StepsFrom telling part (record { entries = part.entries; cells = with_items (with_items (with_items part.cells now_cells) taken) final; classes = with_items part.classes noted; clocks = with_items part.clocks now_clocks }) Stepped
+        → StepsFrom telling part (record { entries = part.entries; cells = with_items (with_items (with_items part.cells now_cells) taken) final; classes = with_items part.classes noted; clocks = with_items part.clocks now_clocks; code = code }) Stepped
     steps_none told from final from_is keeps clocks_again old noted again old_is notes s uses before own after partition S m base start =
         let keeps_so : IsWritten kept_cell taken final = same_written kept_cell kept_cell taken from final final refl (from_is ∙ taken_now) refl keeps in
         let notes_so : IsWritten (ticked_at telling.moment now_clocks) part.classes.items noted =
         same_written (ticked_at telling.moment now_clocks) (ticked_at telling.moment clocks_again) part.classes.items old noted noted (ap (ticked_at telling.moment) (again ∙ clocks_now)) old_is refl notes in
         steps s uses before own after partition S m base telling part start now_clocks b.tells now_cells b.begins taken result long
-        (takes_now s uses before after S m base (starts s uses before own after partition S m base telling part start now_clocks b.tells now_cells b.begins))
-        (record { entries = part.entries; cells = with_items (with_items (with_items part.cells now_cells) taken) final; classes = with_items part.classes noted; clocks = with_items part.clocks now_clocks })
-        final keeps_so noted notes_so told refl
+        (takes_now s uses before after partition S m base (code_starts s uses before own after partition S m base telling part start now_clocks b.tells now_cells b.begins) (coded_now s own start.part_of start.told.model))
+        (record { entries = part.entries; cells = with_items (with_items (with_items part.cells now_cells) taken) final; classes = with_items part.classes noted; clocks = with_items part.clocks now_clocks; code = code })
+        final code_same keeps_so noted notes_so told refl
         (with_items_is (with_items (with_items part.cells now_cells) taken) final (keeps_so.size ∙ long ∙ b.begins.size ∙ sym part.cells.ok.0))
         (with_items_is part.classes noted (notes_so.size ∙ sym part.classes.ok.0))
         room

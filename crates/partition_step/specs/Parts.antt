@@ -1,5 +1,5 @@
 -- A part: the uses of one base partition, with what is kept of its names and classes. This project's own.
-use Rattle.std.specs.Prelude.{◌≡◌, ℕ, List, ◌++◌, length, map, Option, Some, None, slice_get, Contains}
+use Rattle.std.specs.Prelude.{◌≡◌, ℕ, List, ◌++◌, length, map, Option, Some, None, slice_get, Contains, IfSome}
 use Rattle.rational_time.specs.declared.ratio.Ratio.{Ratio}
 use Rattle.flat_model.specs.declared.clock.Clock.{Clock}
 use Rattle.flat_model.specs.declared.clock.Moment.TheVariants.{At}
@@ -13,6 +13,7 @@ use Rattle.moment_theory.specs.Free.{IsOrdered}
 use Rattle.tree_step.specs.declared.cell.Cell.{Cell}
 use Rattle.tree_step.specs.declared.taking.Entry.{Entry}
 use Rattle.tree_step.specs.Starts.{uses_of, IsAmong, KeepsLast}
+use Rattle.part_code.specs.Coded.{IsCodeOf}
 use Rattle.partition_step.specs.declared.part.ClassKept.{ClassKept}
 use Rattle.partition_step.specs.declared.part.Part.{Part}
 
@@ -42,10 +43,11 @@ pub record IsLaid (s : Setting) (own : List Use) (places : List ℕ) (entries : 
   pub clocks_are : (j class : ℕ) → slice_get classes j ≡ Some class → (clock : Clock) × (slice_get clocks j ≡ Some clock) × (clock_of s (Some class) ≡ Some clock)
   pub from_use : (j class : ℕ) → slice_get classes j ≡ Some class → (entry : Use) × Contains own entry × (class_of_equation s entry.equation ≡ Some class)
 
--- a part is that of these uses, and has room for what is told of its classes
+-- a part is that of these uses, has room for what is told of its classes, and any code that it has is that of the uses
 pub record IsPartOf (s : Setting) (own : List Use) (places : List ℕ) (part : Part) : Type 0 where
   pub laid : IsLaid s own places part.entries (names_of part.cells.items) (numbers_of part.classes.items) (clocks_of part.classes.items)
   pub room : length part.clocks.items ≡ length part.classes.items
+  pub coded : IfSome part.code (IsCodeOf s.model.equations s.model.names part.entries)
 
 -- the instant of a tick, where there is one
 abbrev pub IsTickedAt : Setting → Option ℕ → Option Ratio → Type 0

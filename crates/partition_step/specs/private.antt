@@ -1,3 +1,4 @@
+pub mod Coding
 pub mod Laying
 pub mod Stepping
 pub mod Writing

@@ -1,6 +1,7 @@
 //! A base partition from moment to moment: its uses, with what is kept of its names and classes.
 #![tactic(auto)]
 
+mod coding;
 mod keeping;
 mod law;
 mod laying;

@@ -1,5 +1,6 @@
 use first_failure::EquationFailing;
 use flat_model::Clock;
+use part_code::Coded;
 use rational_time::Ratio;
 use sync_values::List;
 use tree_step::{Cell, ClockNow, Entry};
@@ -20,12 +21,13 @@ pub enum Outcome {
     Failed(EquationFailing),
 }
 
-/// The uses of a base partition in their order, the cell of each one's name, the classes of their equations, and room for
-/// what is told of these at a moment.
+/// The uses of a base partition in their order, the cell of each one's name, the classes of their equations, room for what is
+/// told of these at a moment, and the uses as prepared code where they have some.
 #[derive(Drop)]
 pub struct Part {
     pub(crate) entries: List<Entry>,
     pub(crate) cells: Vec<Cell>,
     pub(crate) classes: Vec<ClassKept>,
     pub(crate) clocks: Vec<ClockNow>,
+    pub(crate) code: Option<Coded>,
 }

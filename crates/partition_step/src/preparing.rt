@@ -9,13 +9,15 @@ use crate::laying::{cells_of, lay, place};
 use crate::part::Part;
 use eq_order::Use;
 use flat_model::{Clocking, Elapsed, FlatModel};
+use part_code::prepare_code;
 use rational_time::make;
 use std::alloc::{AllocError, Global};
 use tree_step::ClockNow;
 
 impl Part {
     /// The part of the uses of one base partition, given in their order, before the first moment. The places of the names
-    /// that they reach are written, and no others: one table serves all parts of a model. Its cost is that of its uses.
+    /// that they reach are written, and no others: one table serves all parts of a model. Its cost is that of its uses. Where
+    /// each equation is one between its name and a side, the part steps by prepared code.
     ///
     /// # Errors
     ///
@@ -43,12 +45,14 @@ impl Part {
             interval: Elapsed::Period(make(0, 1)),
         };
         let clocks = Vec::from_elem(alloc, clock, laid.classes.len())?;
+        let code = prepare_code(alloc, flat, laid.entries.as_slice())?;
         place(uses, places);
         Ok(Part {
             entries: laid.entries,
             cells,
             classes: laid.classes,
             clocks,
+            code,
         })
     }
 }

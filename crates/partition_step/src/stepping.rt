@@ -3,19 +3,21 @@ ghost use Rattle.tree_step.specs.Cells.{cell_in};
 ghost use Rattle.tree_step.specs.Frames.{now_in};
 ghost use Rattle.partition_step.specs.Steps.{CanStep, StepsFrom};
 
+use crate::coding::take_any;
 use crate::keeping::{keep, note};
 use crate::part::{Outcome, Part};
 use crate::telling::{begin, tell};
 use flat_model::{FlatModel, Left, Moment};
 use sync_values::Value;
 use tick_plan::Ticking;
-use tree_step::{Scene, cell_at, take_uses};
+use tree_step::{Scene, cell_at};
 
 impl Part {
     /// Takes the uses of the part at a moment: each counts where its class ticks and all that it reads now has values. The
     /// answer is the first equation in flat order that fails, and then the part is for no further moment. `answers` has for
     /// each site the truth value of its condition, where that has one, and `left` the values at the moment before. At a
-    /// moment at which none of its classes ticks a part need not be stepped. It takes no memory.
+    /// moment at which none of its classes ticks a part need not be stepped. It takes no memory. Prepared code is run where
+    /// there is some; trees are walked where there is none, and where an equation fails.
     ///
     /// Source: MLS 3.6, chapter 16, "Clocked Equations", and for what is found past a failure this project's own.
     pub fn step<T: Ticking>(
@@ -44,7 +46,13 @@ impl Part {
             left,
             clocks: &self.clocks,
         };
-        match take_uses(&scene, self.entries.as_slice(), &mut self.cells) {
+        let failing = take_any(
+            &mut self.code,
+            &scene,
+            self.entries.as_slice(),
+            &mut self.cells,
+        );
+        match failing {
             Some(failing) => Outcome::Failed(failing),
             None => {
                 keep(&mut self.cells);

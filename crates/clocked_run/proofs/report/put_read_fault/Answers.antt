@@ -1,7 +1,7 @@
 use Rattle.std.proofs.Common.{refl, ap, sym, ◌∙◌, inr, codes, arith}
 use Rattle.outside_io.specs.Texts.{grown}
-use Rattle.clocked_run.specs.declared.status.Status.TheVariants.{ReadFault}
-use Rattle.clocked_run.proofs.ThreePieces.{first_failed, second_failed, rose_later, last_put}
+use Rattle.command_answer.specs.declared.status.Status.TheVariants.{ReadFault}
+use Rattle.clocked_run.proofs.Pieces.{first_failed, second_failed, rose_later, last_put}
 use Rattle.clocked_run.proofs.report.put_read_fault.Goals as goal
 
 pub returns-in-Err-clause-puts : goal.returns-in-Err-clause-puts

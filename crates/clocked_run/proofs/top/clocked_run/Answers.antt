@@ -1,20 +1,23 @@
-use Rattle.std.proofs.Common.{map, string_bytes}
-use Rattle.outside_io.specs.Counts.{Rose}
-use Rattle.outside_io.specs.Files.{told}
-use Rattle.clocked_run.specs.Ends.{written}
-use Rattle.clocked_run.proofs.Complete.{usage_end, complete_end}
+use Rattle.std.proofs.Common.{◌≡◌, refl, subst, map, string_bytes, arith}
+use Rattle.command_answer.specs.Actions.{actions}
+use Rattle.command_answer.specs.Calls.{reads_in}
+use Rattle.clocked_run.specs.private.Putting.{PrintsText}
+use Rattle.clocked_run.specs.private.Tasks.{CanDo, Ends}
+use Rattle.clocked_run.proofs.Calls.{early_call, text_call, run_call}
 use Rattle.clocked_run.proofs.top.clocked_run.Goals as goal
 
-pub returns-clause-usage : goal.returns-clause-usage
-returns-clause-usage g c =
-    usage_end (map string_bytes c.args.words.now) (told (g.S.Shelf.held c.args.shelf.now) (g.S.Shelf.gives_empty c.args.shelf.now)) (λ name. Rose (g.S.Shelf.faults c.args.shelf.now name) (g.S.Shelf.faults c.carry_out.new.shelf name))
-    (written (g.O.Sink.text c.args.out.now) (g.O.Sink.text c.carry_out.new.out) (g.O.Sink.faults c.args.out.now) (g.O.Sink.faults c.carry_out.new.out))
-    (written (g.E.Sink.text c.args.err.now) (g.E.Sink.text c.carry_out.new.err) (g.E.Sink.faults c.args.err.now) (g.E.Sink.faults c.carry_out.new.err))
-    c.carry_out.result c.carry_out.ensures.ends
+pub returns-in-Ok-Print : goal.returns-in-Ok-Print
+returns-in-Ok-Print g c =
+    let same : c.as_slice.result.now ≡ c.in-Ok-Print.text.items = c.as_slice.ensures.value in
+    text_call _ _ c.print.result c.in-Ok-Print.ensures.shelf (c.print.ensures.counts, omega arith) c.in-Ok-Print.text.items
+    (λ p step. subst (Ends (actions (reads_in p) (map string_bytes c.args.words.now))) c.in-Ok-Print.field-0-is (c.in-Ok-Print.ensures.made p step))
+    (subst (λ t. PrintsText t c.print.result (record { old = g.O.Sink.text c.args.out.now; new = g.O.Sink.text c.print.new.out; before = g.O.Sink.faults c.args.out.now; after = g.O.Sink.faults c.print.new.out })) same c.print.ensures.prints) refl
 
-pub returns-clause-complete : goal.returns-clause-complete
-returns-clause-complete g c = λ model stop bytes command file.
-    complete_end (map string_bytes c.args.words.now) (told (g.S.Shelf.held c.args.shelf.now) (g.S.Shelf.gives_empty c.args.shelf.now)) (λ name. Rose (g.S.Shelf.faults c.args.shelf.now name) (g.S.Shelf.faults c.carry_out.new.shelf name))
-    (written (g.O.Sink.text c.args.out.now) (g.O.Sink.text c.carry_out.new.out) (g.O.Sink.faults c.args.out.now) (g.O.Sink.faults c.carry_out.new.out))
-    (written (g.E.Sink.text c.args.err.now) (g.E.Sink.text c.carry_out.new.err) (g.E.Sink.faults c.args.err.now) (g.E.Sink.faults c.carry_out.new.err))
-    model stop bytes command file c.carry_out.result c.carry_out.ensures.ends
+pub returns-in-Ok-Run : goal.returns-in-Ok-Run
+returns-in-Ok-Run g c =
+    run_call _ _ c.run_model.result c.in-Ok-Run.ensures.shelf c.run_model.ensures.counts c.in-Ok-Run.run'
+    (λ p step. subst (Ends (actions (reads_in p) (map string_bytes c.args.words.now))) c.in-Ok-Run.field-0-is (c.in-Ok-Run.ensures.made p step))
+    (subst CanDo c.in-Ok-Run.field-0-is c.in-Ok-Run.ensures.can) c.run_model.ensures.prints
+
+pub returns-in-Err : goal.returns-in-Err
+returns-in-Err g c = early_call _ _ c.report.result c.in-Err.ensures.shelf (omega arith, c.report.ensures.counts) c.in-Err.end c.in-Err.ensures.ended c.report.ensures.puts refl

@@ -1,0 +1,7 @@
+mod Asks
+mod Beginning
+mod Blocks
+mod Lists
+mod Taken
+mod There
+mod Ticks

@@ -1,9 +1,0 @@
-pub mod Answers
-pub mod Form
-pub mod OneClock
-pub mod Parts
-pub mod Reads
-pub mod Scopes
-pub mod Shapes
-pub mod Steps
-pub mod Told

@@ -1,0 +1,11 @@
+//! The uses of a base partition as prepared code, by the places of their clocks.
+#![tactic(auto)]
+
+mod coded;
+mod laying;
+mod preparing;
+mod sides;
+mod stretching;
+
+pub use coded::{Coded, Landing};
+pub use preparing::prepare_code;
