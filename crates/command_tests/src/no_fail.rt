@@ -57,5 +57,5 @@ fn a_name_that_is_not_held_is_an_empty_model(rt: HostRuntime) {
     );
     assert!(&rt; status == Status::Refused);
     assert!(&rt; out.bytes() == 0);
-    assert!(&rt; err.text() == b"refused N1 at 1:1\n");
+    assert!(&rt; err.text() == "refused N1 at 1:1\n".as_bytes());
 }
