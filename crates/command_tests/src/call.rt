@@ -61,13 +61,13 @@ pub(crate) fn owned(rt: &impl Abort, alloc: Global, words: &[&str]) -> Vec<Strin
     all
 }
 
-fn file(rt: &impl Abort, alloc: Global, name: &str, text: &[u8]) -> (String, Vec<u8>) {
+pub(crate) fn file(rt: &impl Abort, alloc: Global, name: &str, text: &[u8]) -> (String, Vec<u8>) {
     let name = String::from_str(alloc, name).expect(rt, "memory");
     let text = Vec::from_slice(alloc, text).expect(rt, "memory");
     (name, text)
 }
 
-fn sink(rt: &impl Abort, alloc: Global, room: usize, put: usize, failing: u64) -> MemSink
+pub(crate) fn sink(rt: &impl Abort, alloc: Global, room: usize, put: usize, failing: u64) -> MemSink
     requires { 0 < put }
 {
     let failing = Vec::from_slice(alloc, &[failing]).expect(rt, "memory");

@@ -15,6 +15,8 @@ mod limits;
 #[cfg(test)]
 mod many;
 #[cfg(test)]
+mod no_fail;
+#[cfg(test)]
 mod refusals;
 #[cfg(test)]
 mod runs;
