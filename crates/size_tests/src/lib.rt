@@ -1,0 +1,5 @@
+//! Tests of the limits of a model.
+#![tactic(auto)]
+
+#[cfg(test)]
+mod limits;
