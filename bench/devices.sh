@@ -6,7 +6,7 @@
 #
 # PROGRAM is that of ./clockrun where none is given, which is then built first where need be. A read that fails must end
 # with status 4 and name its file, a write that fails with status 5, a prefix of the right out and nothing on err; a read
-# or write that moves one byte changes nothing. No call may hang. The last line is 'N passed, M failed', and the status is 1
+# or write that moves one byte and a thread that is not started change nothing. No call may hang. The last line is 'N passed, M failed', and the status is 1
 # where something failed. A C compiler, cc, is needed.
 set -eu
 
@@ -22,10 +22,10 @@ else
     # Called without words the script builds the program where it is old, and the program ends with status 3.
     "$root/clockrun" 2>/dev/null || [ $? -eq 3 ]
 fi
-cc -O1 -shared -fPIC -o "$scratch/refuse.so" "$here/refuse.c"
+cc -O1 -shared -fPIC -o "$scratch/refuse.so" "$here/refuse.c" -ldl
 
 # The controller of three rates, once more with blanks behind it; a counter of 20,001 rows, which takes many writes; one
-# that overflows at the last of them; a sum that overflows; and a model that is refused.
+# that overflows at the last of them; a sum that overflows; a model that is refused; and one of two counters.
 cp "$root"/examples/{three_rates/loop.mo,three_rates/level.csv,overflow/integrator.mo} "$scratch/"
 three_rates="$root/examples/three_rates/out"
 overflow="$root/examples/overflow"
@@ -35,6 +35,11 @@ clause='equation when Clock(1) then x = previous(x) + 1; end when; end Rows;'
 echo "model Rows Integer x; $clause" >rows.mo
 echo "model Rows Integer x(start = 9223372036854755807); $clause" >faulty.mo
 echo 'model Bad Integer x; equation x = z; end Bad;' >bad.mo
+{
+    echo 'model Two Integer p; Integer q; equation when Clock(1) then p = previous(p) + 1; end when;'
+    echo 'when Clock(1) then q = previous(q) + 2; end when; end Two;'
+} >two.mo
+{ echo 'time,p,q' && seq 0 20 | awk '{ print $1 "," $1 + 1 "," 2 * $1 + 2 }'; } >two.out
 { echo 'time,x' && seq 0 20000 | awk '{ print $1 "," $1 + 1 }'; } >rows.out
 { echo 'time,x' && seq 0 19999 | awk '{ print $1 ",92233720368547" 55808 + $1 }'; } >faulty.out
 echo 'fault too-large at 20000 in equation 1' >faulty.err
@@ -98,8 +103,7 @@ total() {
     number="$(cat requests)"
 }
 
-# Each of the call's writes fails in turn, alone and with all behind it; and each read and write of several bytes moves
-# one, and once all do.
+# Each of the call's writes fails in turn, alone and with all behind it.
 each_write() {
     local it number
     total write
@@ -110,14 +114,19 @@ each_write() {
         done
     done
     echo "$number writes of ${words[*]}"
-    total part
+}
+
+# Each of the call's requests of a kind that changes nothing is refused in turn, alone and with all behind it.
+each_harmless() {
+    local it number
+    total "$1"
     for ((it = 1; it <= number; it++)); do
-        run "part:$it"
-        count "part $it of ${words[*]}" "$(differs "${answer[@]}")"
+        for from in "$it" "$it.."; do
+            run "$1:$from"
+            count "$1 $from of ${words[*]}" "$(differs "${answer[@]}")"
+        done
     done
-    run part:1..
-    count "all parts of ${words[*]}" "$(differs "${answer[@]}")"
-    echo "$number reads and writes of several bytes of ${words[*]}"
+    echo "$number requests of the kind $1 of ${words[*]}"
 }
 
 # Each of the call's reads fails in turn. The first so many are of the first file, and the others of the second.
@@ -141,24 +150,35 @@ for workers in 1 4; do
     answer=(0 "$three_rates" nothing)
     each_read 2 loop.mo level.csv
     each_write
+    each_harmless part
 done
 words=(long.mo --table level.csv --stop 0.02)
 each_read 5 long.mo level.csv
 words=(rows.mo --stop 20000)
 answer=(0 rows.out nothing)
 each_write
+each_harmless part
 words=(faulty.mo --stop 20000)
 answer=(2 faulty.out faulty.err)
 each_write
+each_harmless part
 words=(integrator.mo --stop 20000)
 answer=(2 "$overflow/out" "$overflow/err")
 each_write
+each_harmless part
 words=(bad.mo --stop 1)
 answer=(1 nothing bad.err)
 each_write
+each_harmless part
 words=(bad.mo)
 answer=(3 nothing usage.err)
 each_write
+each_harmless part
+
+# Two base partitions, which are stepped side by side.
+words=(two.mo --stop 20 --workers 4)
+answer=(0 two.out nothing)
+each_harmless thread
 
 # Names of which the machine gives no file, as MODEL and as FILE. The last is a pipe.
 for name in missing folder /dev/fd/3; do

@@ -22,7 +22,7 @@ else
     # Called without words the script builds the program where it is old, and the program ends with status 3.
     "$root/clockrun" 2>/dev/null || [ $? -eq 3 ]
 fi
-cc -O1 -shared -fPIC -o "$scratch/refuse.so" "$here/refuse.c"
+cc -O1 -shared -fPIC -o "$scratch/refuse.so" "$here/refuse.c" -ldl
 cp "$example/loop.mo" "$example/level.csv" "$scratch/"
 cd "$scratch"
 echo 'no memory' >no_memory

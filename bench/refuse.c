@@ -7,14 +7,17 @@
  *     read:N    the Nth read fails
  *     write:N   the Nth write fails
  *     part:N    the Nth read or write of more than one byte moves one byte
+ *     thread:N  the Nth thread is not started
  *
  * With N.. in place of N, all requests of the kind from the Nth on are refused. A number of 0 refuses nothing. At the end
  * the number of requests of the kind is put into the file that REFUSE_COUNT names, if there is one.
  */
 #define _GNU_SOURCE
+#include <dlfcn.h>
 #include <errno.h>
 #include <fcntl.h>
 #include <limits.h>
+#include <pthread.h>
 #include <stdatomic.h>
 #include <stdio.h>
 #include <stdlib.h>
@@ -26,7 +29,9 @@ void *__libc_malloc(size_t size);
 void *__libc_calloc(size_t count, size_t size);
 void *__libc_realloc(void *at, size_t size);
 
-enum kind { NOTHING, MEMORY, READ, WRITE, PART };
+enum kind { NOTHING, MEMORY, READ, WRITE, PART, THREAD };
+
+typedef int start(pthread_t *, const pthread_attr_t *, void *(*)(void *), void *);
 
 static enum kind counted;
 static unsigned long first, last;
@@ -91,13 +96,20 @@ ssize_t __write(int file, const void *piece, size_t size)
     return write(file, piece, size);
 }
 
+int pthread_create(pthread_t *thread, const pthread_attr_t *how, void *(*run)(void *), void *on)
+{
+    if (is_refused(THREAD))
+        return EAGAIN;
+    return ((start *)dlsym(RTLD_NEXT, "pthread_create"))(thread, how, run, on);
+}
+
 __attribute__((constructor)) static void begin(void)
 {
-    static const char *const names[] = { "", "memory:", "read:", "write:", "part:" };
+    static const char *const names[] = { "", "memory:", "read:", "write:", "part:", "thread:" };
     const char *wanted = getenv("REFUSE");
     if (!wanted)
         return;
-    for (enum kind kind = MEMORY; kind <= PART; kind++)
+    for (enum kind kind = MEMORY; kind <= THREAD; kind++)
         if (!strncmp(wanted, names[kind], strlen(names[kind])))
             counted = kind;
     char *rest;
