@@ -39,13 +39,13 @@ fn a_failing_read_ends_the_command(rt: HostRuntime) {
 /// How many bytes of a text are there once so many puts took at most five bytes each of one of its lines.
 fn taken_by(text: &[u8], puts: u64) -> usize {
     let mut left = puts;
-    let mut of_put = 0;
+    let mut of_put = 0u32;
     let mut taken = 0;
     for (at, byte) in text.iter().enumerate() {
         if left == 0 {
             return taken;
         }
-        of_put += 1;
+        of_put = of_put.saturating_add(1);
         if of_put == 5 || *byte == b'\n' {
             left -= 1;
             of_put = 0;
@@ -64,9 +64,12 @@ fn a_failing_put_leaves_what_was_put_before(rt: HostRuntime) {
             ..SOUND
         };
         let ended = controller(&rt, rt.alloc(), &devices);
-        let taken = taken_by(TRACE.as_bytes(), failing - 1).min(TRACE.len());
-        let put = &TRACE.as_bytes()[..taken];
-        assert!(&rt; ended.is(Status::WriteFault, put, ""), "put {failing}");
+        let taken = taken_by(TRACE.as_bytes(), failing - 1);
+        let out = ended.out.as_slice();
+        let is_prefix = out.len() == taken && TRACE.as_bytes().starts_with(out);
+        assert!(&rt; is_prefix, "put {failing}");
+        assert!(&rt; ended.status == Status::WriteFault, "put {failing}");
+        assert!(&rt; ended.err.is_empty(), "put {failing}");
     }
 }
 
