@@ -113,7 +113,7 @@ module _ (pure waiting : List Entry) (always : List ClockNow) (numbers : List �
       can_step pure waiting always numbers cells ticked places slots left model_now at (row_ticks told) answers now s uses A n (between_row s uses A n between) i slot found
 
   module _ (new : List (Slot Piece)) (stepped : AreSteppedAt telling_now model_now.clocking.partitions slots new) (gathered : Values) (gathers : IsWritten (gathered_at model_now.clocking numbers places new) now gathered)
-      (shown : List Cell) (opens : IsWritten (opened_by numbers left.last gathered (standing model_now.clocking ticks answers)) cells shown) where
+      (shown : List Cell) (opens : IsWritten (opened_by numbers left.last gathered (standing model_now.clocking (row_ticks told) answers)) cells shown) where
     module _ (s : Setting) (uses : List Use) (A : Assignment) (n : ℕ) (between : IsBetween stages Before model_now at ticks answers now s uses A n) where
       abbrev told_between : IsBetween stages Before model_now at (row_ticks told) answers now s uses A n
       told_between = between_row s uses A n between
@@ -137,8 +137,8 @@ module _ (pure waiting : List Entry) (always : List ClockNow) (numbers : List �
       ordered = subst (λ us. IsOrdered s uses ((stages.pure ++ joined stages.pieces) ++ us)) (sym (bare_end stages.waiting))
           (ordered_behind s uses stages.pure stages.pieces stages.waiting between.moment.staged.are A n at between.moment.here between.inputs between.are (value_in now) between.taken own_rows rows_alone row rows_beside)
 
-      opens_here : IsWritten (opened_by numbers left.last gathered (standing s.clocking ticks answers)) cells shown
-      opens_here = subst (λ k. IsWritten (opened_by numbers left.last gathered (standing k ticks answers)) cells shown) between.model_is.clocking opens
+      opens_here : IsWritten (opened_by numbers left.last gathered (standing s.clocking (row_ticks told) answers)) cells shown
+      opens_here = subst (λ k. IsWritten (opened_by numbers left.last gathered (standing k (row_ticks told) answers)) cells shown) between.model_is.clocking opens
 
       apart : AreSitesApart s (uses_of waiting) waiting
       apart entry class y among asks reads reached = site_not_waiting s uses stages.pure stages.pieces stages.waiting between.moment.staged.are between.moment.staged.reach class y reads reached
@@ -146,20 +146,20 @@ module _ (pure waiting : List Entry) (always : List ClockNow) (numbers : List �
       lasts : (entry : Entry) (equation : Equation) (z : ℕ) → IsAmong entry waiting → slice_get s.model.equations entry.equation ≡ Some equation → AsksLast equation z → IsValued s z → LastSeen s A n row numbers shown z
       lasts entry equation z among found asks valued =
           let lt = valued_within s z valued in
-          let o = open_cell s pure waiting always numbers between.based.settled left.last gathered (standing s.clocking ticks answers) cells shown between.based.room opens_here z lt in
+          let o = open_cell s pure waiting always numbers between.based.settled left.last gathered (standing s.clocking (row_ticks told) answers) cells shown between.based.room opens_here z lt in
           let (last, last_found) = some_at left.last z (let long = between.based.left_is.long in omega (arith, lt, long)) in (
             o.cell,
             o.found,
             sym (between.based.left_is.last z valued) ∙ last_found ∙ ap Some (sym (ap (λ c. c.kept) o.is ∙ ap (λ v. unwrap_or v o.was.kept) last_found)),
             subst (λ how. StandsAs s (with_row A n row) n (class_of_name s z) how) (sym (ap (λ c. c.standing) o.is))
-                (stands_as s A n (value_in now) row ticks answers between.ticks_are (λ site. answer_flat (slice_get answers site) ∙ between.answers_are site)
+                (stands_as s A n (value_in now) row (row_ticks told) answers (row_is s uses A n between) (λ site. answer_flat (slice_get answers site) ∙ between.answers_are site)
                 (same_site s uses stages.pure stages.pieces stages.waiting between.moment.staged.are A n at between.moment.here between.inputs between.are (value_in now) between.taken own_rows rows_alone row rows_beside between.moment.staged.reach)
                 (same_ticks s uses stages.pure stages.pieces stages.waiting between.moment.staged.are A n at between.moment.here between.inputs between.are (value_in now) between.taken own_rows rows_alone row rows_beside between.moment.staged.reach)
                 (class_of_name s z)),
           )
 
       rest_starts : IsStart s uses (stages.pure ++ joined stages.pieces) [] A n row (record { equations = s.model.equations; places = numbers; left = left; clocks = always }) waiting shown
-      rest_starts = starts s uses (stages.pure ++ joined stages.pieces) [] waiting ordered A n between.moment.meets pure waiting always numbers between.based.settled left gathered (standing s.clocking ticks answers) cells shown between.based.room opens_here
+      rest_starts = starts s uses (stages.pure ++ joined stages.pieces) [] waiting ordered A n between.moment.meets pure waiting always numbers between.based.settled left gathered (standing s.clocking (row_ticks told) answers) cells shown between.based.room opens_here
           (row_typed s uses stages.pure stages.pieces stages.waiting between.moment.staged.are A n at between.moment.here between.inputs between.are (value_in now) between.taken own_rows rows_alone row rows_beside)
           (row_sound s uses stages.pure stages.pieces stages.waiting between.moment.staged.are A n at between.moment.here between.inputs between.are (value_in now) between.taken own_rows rows_alone row rows_beside)
           (row_clear s uses stages.pure stages.pieces stages.waiting between.moment.staged.are A n at between.moment.here between.inputs between.are (value_in now) between.taken own_rows rows_alone row rows_beside)
@@ -205,11 +205,11 @@ module _ (pure waiting : List Entry) (always : List ClockNow) (numbers : List �
         has : HasTaken s uses A n mid (record { equations = model_now.flat.equations; places = numbers; left = left; clocks = always }) waiting shown taken behind
         has = takes s uses (stages.pure ++ joined stages.pieces) [] A n mid (rest_start s uses A n between)
 
-        opens_here' : IsWritten (opened_by numbers left.last gathered (standing s.clocking ticks answers)) cells shown
-        opens_here' = subst (λ k. IsWritten (opened_by numbers left.last gathered (standing k ticks answers)) cells shown) between.model_is.clocking opens
+        opens_here' : IsWritten (opened_by numbers left.last gathered (standing s.clocking (row_ticks told) answers)) cells shown
+        opens_here' = subst (λ k. IsWritten (opened_by numbers left.last gathered (standing k (row_ticks told) answers)) cells shown) between.model_is.clocking opens
 
         open_there : (x : ℕ) → x < length s.model.names → (cell : Cell) × (cell_in numbers shown x ≡ Some cell)
-        open_there x lt = let o = open_cell s pure waiting always numbers between.based.settled left.last gathered (standing s.clocking ticks answers) cells shown between.based.room opens_here' x lt in (o.cell, o.found)
+        open_there x lt = let o = open_cell s pure waiting always numbers between.based.settled left.last gathered (standing s.clocking (row_ticks told) answers) cells shown between.based.room opens_here' x lt in (o.cell, o.found)
 
         own_is : has.own ≡ end
         own_is = fun_ext (copied s pure waiting always numbers between.based.settled shown taken open_there has.kept gathered last (gathers.size ∙ between.wide) copies has.own has.holds

@@ -116,7 +116,7 @@ impl StagedSteps {
         gather(&model.clocking, numbers, places, slots, now);
         let told = least_told(slots);
         let last = self.left.last.as_slice();
-        open_ticking(&model.clocking, plan, answers, numbers, last, now, cells);
+        open_ticking(&model.clocking, ticks, answers, numbers, last, now, cells);
         let behind = take_unclocked(
             &model.flat,
             numbers,

@@ -58,10 +58,10 @@ take_unclocked-behind-requires g c =
     let gathers : IsWritten (gathered_at m.clocking w.numbers w.places new) c.args.now.now gathered =
     subst (λ ps. IsWritten (gathered_at m.clocking w.numbers ps new) c.args.now.now gathered) c.as_slice-places.ensures
     (subst (λ ns. IsWritten (gathered_at m.clocking ns c.as_slice-places.result.now new) c.args.now.now gathered) c.as_slice-numbers.ensures c.gather.ensures) in
-    let opens : IsWritten (opened_by w.numbers w.left.last gathered (standing m.clocking ticks c.args.answers.now)) w.cells.items shown =
-    subst (λ old. IsWritten (opened_by w.numbers w.left.last gathered (standing m.clocking ticks c.args.answers.now)) old shown) c.as_mut_slice-cells.ensures.value
-    (subst (λ l. IsWritten (opened_by w.numbers l gathered (standing m.clocking ticks c.args.answers.now)) c.as_mut_slice-cells.result.now shown) c.as_slice-last.ensures
-    (subst (λ ns. IsWritten (opened_by ns c.as_slice-last.result.now gathered (standing m.clocking ticks c.args.answers.now)) c.as_mut_slice-cells.result.now shown) c.as_slice-numbers.ensures c.open_ticking.ensures)) in
+    let opens : IsWritten (opened_by w.numbers w.left.last gathered (standing m.clocking (row_ticks told) c.args.answers.now)) w.cells.items shown =
+    subst (λ old. IsWritten (opened_by w.numbers w.left.last gathered (standing m.clocking (row_ticks told) c.args.answers.now)) old shown) c.as_mut_slice-cells.ensures.value
+    (subst (λ l. IsWritten (opened_by w.numbers l gathered (standing m.clocking (row_ticks told) c.args.answers.now)) c.as_mut_slice-cells.result.now shown) c.as_slice-last.ensures
+    (subst (λ ns. IsWritten (opened_by ns c.as_slice-last.result.now gathered (standing m.clocking (row_ticks told) c.args.answers.now)) c.as_mut_slice-cells.result.now shown) c.as_slice-numbers.ensures c.open_ticking.ensures)) in
     subst (λ ns. CanStart (record { equations = m.flat.equations; places = ns; left = w.left; clocks = c.as_slice.result.now }) c.as_slice-2.result.now shown) (sym c.as_slice-numbers.ensures)
     (subst (λ cs. CanStart (record { equations = m.flat.equations; places = w.numbers; left = w.left; clocks = cs }) c.as_slice-2.result.now shown) (sym c.as_slice.ensures)
     (subst (λ es. CanStart (record { equations = m.flat.equations; places = w.numbers; left = w.left; clocks = w.always }) es shown) (sym c.as_slice-2.ensures)
@@ -85,10 +85,10 @@ returns-clause-same g c =
     let gathers : IsWritten (gathered_at m.clocking w.numbers w.places new) c.args.now.now gathered =
     subst (λ ps. IsWritten (gathered_at m.clocking w.numbers ps new) c.args.now.now gathered) c.as_slice-places.ensures
     (subst (λ ns. IsWritten (gathered_at m.clocking ns c.as_slice-places.result.now new) c.args.now.now gathered) c.as_slice-numbers.ensures c.gather.ensures) in
-    let opens : IsWritten (opened_by w.numbers w.left.last gathered (standing m.clocking ticks c.args.answers.now)) w.cells.items shown =
-    subst (λ old. IsWritten (opened_by w.numbers w.left.last gathered (standing m.clocking ticks c.args.answers.now)) old shown) c.as_mut_slice-cells.ensures.value
-    (subst (λ l. IsWritten (opened_by w.numbers l gathered (standing m.clocking ticks c.args.answers.now)) c.as_mut_slice-cells.result.now shown) c.as_slice-last.ensures
-    (subst (λ ns. IsWritten (opened_by ns c.as_slice-last.result.now gathered (standing m.clocking ticks c.args.answers.now)) c.as_mut_slice-cells.result.now shown) c.as_slice-numbers.ensures c.open_ticking.ensures)) in
+    let opens : IsWritten (opened_by w.numbers w.left.last gathered (standing m.clocking (row_ticks told) c.args.answers.now)) w.cells.items shown =
+    subst (λ old. IsWritten (opened_by w.numbers w.left.last gathered (standing m.clocking (row_ticks told) c.args.answers.now)) old shown) c.as_mut_slice-cells.ensures.value
+    (subst (λ l. IsWritten (opened_by w.numbers l gathered (standing m.clocking (row_ticks told) c.args.answers.now)) c.as_mut_slice-cells.result.now shown) c.as_slice-last.ensures
+    (subst (λ ns. IsWritten (opened_by ns c.as_slice-last.result.now gathered (standing m.clocking (row_ticks told) c.args.answers.now)) c.as_mut_slice-cells.result.now shown) c.as_slice-numbers.ensures c.open_ticking.ensures)) in
     let size : length new ≡ length w.slots.items = stepped.long in
     subst (λ sl. stages_in w.pure w.waiting sl ≡ stages_in w.pure w.waiting w.slots.items) (sym (whole_back w.slots.len w.slots.items new w.slots.ok.0 size))
     (same_stages telling m.clocking.partitions w.pure w.waiting w.slots.items new stepped)
@@ -111,10 +111,10 @@ returns-clause-takes g c =
     let gathers : IsWritten (gathered_at m.clocking w.numbers w.places new) c.args.now.now gathered =
     subst (λ ps. IsWritten (gathered_at m.clocking w.numbers ps new) c.args.now.now gathered) c.as_slice-places.ensures
     (subst (λ ns. IsWritten (gathered_at m.clocking ns c.as_slice-places.result.now new) c.args.now.now gathered) c.as_slice-numbers.ensures c.gather.ensures) in
-    let opens : IsWritten (opened_by w.numbers w.left.last gathered (standing m.clocking ticks c.args.answers.now)) w.cells.items shown =
-    subst (λ old. IsWritten (opened_by w.numbers w.left.last gathered (standing m.clocking ticks c.args.answers.now)) old shown) c.as_mut_slice-cells.ensures.value
-    (subst (λ l. IsWritten (opened_by w.numbers l gathered (standing m.clocking ticks c.args.answers.now)) c.as_mut_slice-cells.result.now shown) c.as_slice-last.ensures
-    (subst (λ ns. IsWritten (opened_by ns c.as_slice-last.result.now gathered (standing m.clocking ticks c.args.answers.now)) c.as_mut_slice-cells.result.now shown) c.as_slice-numbers.ensures c.open_ticking.ensures)) in
+    let opens : IsWritten (opened_by w.numbers w.left.last gathered (standing m.clocking (row_ticks told) c.args.answers.now)) w.cells.items shown =
+    subst (λ old. IsWritten (opened_by w.numbers w.left.last gathered (standing m.clocking (row_ticks told) c.args.answers.now)) old shown) c.as_mut_slice-cells.ensures.value
+    (subst (λ l. IsWritten (opened_by w.numbers l gathered (standing m.clocking (row_ticks told) c.args.answers.now)) c.as_mut_slice-cells.result.now shown) c.as_slice-last.ensures
+    (subst (λ ns. IsWritten (opened_by ns c.as_slice-last.result.now gathered (standing m.clocking (row_ticks told) c.args.answers.now)) c.as_mut_slice-cells.result.now shown) c.as_slice-numbers.ensures c.open_ticking.ensures)) in
     let taken = c.take_unclocked-behind.new.cells in
     let behind = c.take_unclocked-behind.result in
     let takes : TakesUses (record { equations = m.flat.equations; places = w.numbers; left = w.left; clocks = w.always }) w.waiting shown taken behind =
