@@ -3,7 +3,7 @@ use crate::call::{Call, check_all};
 use clocked_run::Status;
 
 /// Runs that reach their stop.
-const RUNS: [Call; 27] = [
+const RUNS: [Call; 28] = [
     (
         &["m", "--stop", "1"],
         "model M Integer x; equation when Clock(1,2) then x = previous(x) + 1; end when; end M;\n",
@@ -82,6 +82,14 @@ const RUNS: [Call; 27] = [
         "",
         Status::Done,
         "time,y\n0,-6\n",
+        "",
+    ),
+    (
+        &["m", "--stop", "4", "--table", "t"],
+        "model M input Integer u; input Integer v; Integer n; Integer a; Integer b; Integer c; Integer d; equation when Clock(2,1) then n = previous(n) + 1; end when; a = 2*u; b = mod(v,2); c = b + 10; d = hold(n) + a; end M;\n",
+        "time,u,v\n0,1,4\n1,1,6\n2,3,6\n3,3,7\n4,3,9\n",
+        Status::Done,
+        "time,u,v,n,a,b,c,d\n0,1,4,1,2,0,10,3\n1,1,6,,2,0,10,3\n2,3,6,2,6,0,10,8\n3,3,7,,6,1,11,8\n4,3,9,3,6,1,11,9\n",
         "",
     ),
     (

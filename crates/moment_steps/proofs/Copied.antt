@@ -15,6 +15,7 @@ use Rattle.tree_step.specs.Takes.{IsSameCell}
 use Rattle.partition_step.specs.private.Writing.{IsWritten}
 use Rattle.partition_step.proofs.Lists.{some_at}
 use Rattle.partition_step.proofs.Placing.{IsThere, there}
+use Rattle.moment_steps.specs.declared.taking.UnclockedReads.{UnclockedReads}
 use Rattle.moment_steps.specs.Settled.{IsSettled}
 use Rattle.moment_steps.specs.private.Opening.{value_from, value_by}
 
@@ -23,7 +24,7 @@ still_there None new cell is same = absurd (none-some cell is)
 still_there (Some old) None cell is same = absurd same
 still_there (Some old) (Some other) cell is same = (other, refl)
 
-module _ (s : Setting) (pure waiting : List Entry) (always : List ClockNow) (numbers : List ℕ) (settled : IsSettled s pure waiting always numbers)
+module _ (s : Setting) (pure waiting : List Entry) (noted : UnclockedReads) (always : List ClockNow) (numbers : List ℕ) (settled : IsSettled s pure waiting noted always numbers)
     (shown new : List Cell) (open_there : (x : ℕ) → x < length s.model.names → (cell : Cell) × (cell_in numbers shown x ≡ Some cell)) (kept : (x : ℕ) → IsSameCell (cell_in numbers shown x) (cell_in numbers new x))
     (now after : List (Option Value)) (wide : length now ≡ length s.model.names) (copies : IsWritten (value_by new) now after)
     (own : Row) (holds : (x : ℕ) (cell : Cell) → cell_in numbers new x ≡ Some cell → cell.now ≡ own x) (outside : (x : ℕ) → length s.model.names ≤ x → own x ≡ None) where

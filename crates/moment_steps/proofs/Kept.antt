@@ -24,6 +24,7 @@ use Rattle.partition_step.specs.private.Writing.{IsWritten}
 use Rattle.partition_step.proofs.Lists.{some_at}
 use Rattle.moment_body.specs.Stepping.{Values}
 use Rattle.moment_steps.specs.declared.piece.Piece.{Piece}
+use Rattle.moment_steps.specs.declared.taking.UnclockedReads.{UnclockedReads}
 use Rattle.moment_steps.specs.Standing.{IsLeftAt, StandsBefore, HasEnded}
 use Rattle.moment_steps.specs.private.Keeping.{last_by, now_by}
 use Rattle.moment_steps.proofs.Starting.{valued_within}
@@ -81,15 +82,16 @@ module _ (s : Setting) (A : Assignment) (n : ℕ) (now : Values) (wide : length 
   left_next = record {
     wide = keeps_now.size ∙ left_is.wide;
     long = keeps_last.size ∙ left_is.long;
+    first = λ y none. absurd (omega (arith, none));
     now = λ y k later.
         let same : n ≡ k = omega (arith, later) in
         now_is y ∙ sym (row_now A n (value_in now) y) ∙ ap (T y) same;
     last = last_is;
   }
 
-  pub stands_next : (pure waiting : List Entry) (always : List ClockNow) (numbers : List ℕ) (cells : List Cell) (ticked : List Bool) (places : List ℕ) (slots : List (Slot Piece))
-      → HasEnded s A n (value_in now) pure waiting always numbers cells ticked places slots left → StandsBefore s T (suc n) pure waiting always numbers cells ticked places slots new
-  stands_next pure waiting always numbers cells ticked places slots ended = record {
+  pub stands_next : (pure waiting : List Entry) (noted : UnclockedReads) (always : List ClockNow) (numbers : List ℕ) (cells : List Cell) (ticked : List Bool) (places : List ℕ) (slots : List (Slot Piece))
+      → HasEnded s A n (value_in now) pure waiting noted always numbers cells ticked places slots left → StandsBefore s T (suc n) pure waiting noted always numbers cells ticked places slots new
+  stands_next pure waiting noted always numbers cells ticked places slots ended = record {
     settled = ended.settled;
     room = ended.room;
     told_room = ended.told_room;

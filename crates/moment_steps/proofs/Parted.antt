@@ -48,6 +48,7 @@ use Rattle.moment_body.specs.declared.model.ClockedModel.{ClockedModel}
 use Rattle.moment_body.specs.Stages.{Stages}
 use Rattle.moment_body.specs.Stepping.{Values, IsBetween}
 use Rattle.moment_steps.specs.declared.piece.Piece.{Piece}
+use Rattle.moment_steps.specs.declared.taking.UnclockedReads.{UnclockedReads}
 use Rattle.moment_steps.specs.Gathered.{told_in, partition_by, partition_in, value_from, value_of_slot, gathered, gathered_at}
 use Rattle.moment_steps.specs.Settled.{own_uses, stages_in, IsSlotOf}
 use Rattle.moment_steps.specs.Stepped.{IsPieceStepped, HasRested, HasCounted, AreSteppedAt}
@@ -85,15 +86,15 @@ outcome_is : (result : Outcome) → failing_in result ≡ None → result ≡ St
 outcome_is Stepped none = refl
 outcome_is (Failed failing) none = absurd (none-some failing (sym none))
 
-module _ (pure waiting : List Entry) (always : List ClockNow) (numbers : List ℕ) (cells : List Cell) (ticked : List Bool) (places : List ℕ) (slots : List (Slot Piece)) (left : Left)
+module _ (pure waiting : List Entry) (noted : UnclockedReads) (always : List ClockNow) (numbers : List ℕ) (cells : List Cell) (ticked : List Bool) (places : List ℕ) (slots : List (Slot Piece)) (left : Left)
     (model_now : ClockedModel) (at : Moment) (ticks : ℕ → Bool) (answers : List (Option Bool)) (now : Values)
-    (s : Setting) (uses : List Use) (A : Assignment) (n : ℕ) (between : IsBetween (stages_in pure waiting slots) (Based-on pure waiting always numbers cells ticked places slots left) model_now at ticks answers now s uses A n)
-    (new : List (Slot Piece)) (stepped : AreSteppedAt (telling pure waiting always numbers cells ticked places slots left model_now at ticks answers now) model_now.clocking.partitions slots new) where
+    (s : Setting) (uses : List Use) (A : Assignment) (n : ℕ) (between : IsBetween (stages_in pure waiting slots) (Based-on pure waiting noted always numbers cells ticked places slots left) model_now at ticks answers now s uses A n)
+    (new : List (Slot Piece)) (stepped : AreSteppedAt (telling pure waiting noted always numbers cells ticked places slots left model_now at ticks answers now) model_now.clocking.partitions slots new) where
   abbrev stages : Stages
   stages = stages_in pure waiting slots
 
   abbrev told_now : Telling
-  told_now = telling pure waiting always numbers cells ticked places slots left model_now at ticks answers now
+  told_now = telling pure waiting noted always numbers cells ticked places slots left model_now at ticks answers now
 
   abbrev base : Row
   base = value_in now
@@ -113,11 +114,11 @@ module _ (pure waiting : List Entry) (always : List ClockNow) (numbers : List �
   module _ (i : ℕ) (was slot : Slot Piece) (was_found : slice_get slots i ≡ Some was) where
     counted : HasCounted told_now was slot → SlotRow i slot
     counted c =
-        let start = step_start pure waiting always numbers cells ticked places slots left model_now at ticks answers now s uses A n between i was was_found in
+        let start = step_start pure waiting noted always numbers cells ticked places slots left model_now at ticks answers now s uses A n between i was was_found in
         let done : HasStepped s uses (own_uses was) A n base told_now slot.piece.part c.stepped.result =
         c.stepped.steps s uses
-        (ahead pure waiting always numbers cells ticked places slots left model_now at ticks answers now s uses A n between i was was_found) (own_uses was)
-        (after pure waiting always numbers cells ticked places slots left model_now at ticks answers now s uses A n between i was was_found) i A n base start in record {
+        (ahead pure waiting noted always numbers cells ticked places slots left model_now at ticks answers now s uses A n between i was was_found) (own_uses was)
+        (after pure waiting noted always numbers cells ticked places slots left model_now at ticks answers now s uses A n between i was was_found) i A n base start in record {
           own = own_uses was;
           piece = at_map own_uses slots i was was_found;
           same = c.stepped.same;
@@ -280,7 +281,7 @@ module _ (pure waiting : List Entry) (always : List ClockNow) (numbers : List �
           let used : Contains uses entry = between.moment.staged.are.ordered.same.only entry (member_contains entry whole_order (piece_member entry member)) in
           let class = class_of_use s (facts_of s between.moment.staged.are.ordered.runs) entry (facts_of_use s uses between.moment.staged.are.ordered.uses_are.uses_are entry used) in
           ap (λ z. partition_of s (class_of_name s z)) name ∙ ap (partition_of s) class
-          ∙ of pure waiting always numbers cells ticked places slots left model_now at ticks answers now s uses A n between i piece found entry has
+          ∙ of pure waiting noted always numbers cells ticked places slots left model_now at ticks answers now s uses A n between i piece found entry has
         where
           back_member : (xs ys : List Use) (e : Use) → IsMember e ys → IsMember e (xs ++ ys)
           back_member [] ys e h = h

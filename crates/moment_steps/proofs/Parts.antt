@@ -52,6 +52,7 @@ use Rattle.moment_body.specs.declared.model.ClockedModel.{ClockedModel}
 use Rattle.moment_body.specs.Stages.{Stages}
 use Rattle.moment_body.specs.Stepping.{Values, Based, IsBetween}
 use Rattle.moment_steps.specs.declared.piece.Piece.{Piece}
+use Rattle.moment_steps.specs.declared.taking.UnclockedReads.{UnclockedReads}
 use Rattle.moment_steps.specs.Gathered.{told_in, value_from}
 use Rattle.moment_steps.specs.Settled.{own_uses, stages_in, IsPlainEntry, IsSlotOf}
 use Rattle.moment_steps.specs.Standing.{StandsBefore}
@@ -70,12 +71,12 @@ pub answer_flat : (o : Option (Option Bool)) → flattened o ≡ unwrap_or o Non
 answer_flat None = refl
 answer_flat (Some o) = refl
 
-module _ (pure waiting : List Entry) (always : List ClockNow) (numbers : List ℕ) (cells : List Cell) (ticked : List Bool) (places : List ℕ) (slots : List (Slot Piece)) (left : Left) where
+module _ (pure waiting : List Entry) (noted : UnclockedReads) (always : List ClockNow) (numbers : List ℕ) (cells : List Cell) (ticked : List Bool) (places : List ℕ) (slots : List (Slot Piece)) (left : Left) where
   abbrev pub stages : Stages
   stages = stages_in pure waiting slots
 
   abbrev pub Based-on : Based
-  Based-on s A n row = StandsBefore s A n pure waiting always numbers cells ticked places slots left
+  Based-on s A n row = StandsBefore s A n pure waiting noted always numbers cells ticked places slots left
 
   module _ (model_now : ClockedModel) (at : Moment) (ticks : ℕ → Bool) (answers : List (Option Bool)) (now : Values) where
     abbrev pub telling : Telling

@@ -26,13 +26,15 @@ use Rattle.tree_step.specs.declared.cell.Standing.TheVariants.{Ticks}
 use Rattle.tree_step.specs.declared.frame.ClockNow.{ClockNow}
 use Rattle.tree_step.specs.declared.taking.Entry.{Entry}
 use Rattle.tree_step.specs.Cells.{cell_in}
-use Rattle.tree_step.specs.Starts.{use_of, uses_of, IsAmong, AreSitesApart, IsStart, CanStart}
+use Rattle.tree_step.specs.Changed.{AreReadsOf, CanStartChanged}
+use Rattle.tree_step.specs.Starts.{use_of, uses_of, IsAmong, AreSitesApart, IsStart}
 use Rattle.tree_step.specs.Takes.{TakesUses, HasTaken}
 use Rattle.moment_body.specs.declared.model.ClockedModel.{ClockedModel}
 use Rattle.moment_body.specs.Stages.{Stages}
 use Rattle.moment_body.specs.Stepping.{Values, Standing, Based, IsBefore, CanTakePure, HasTakenPure, TakesPure}
 use Rattle.partition_step.specs.private.Writing.{IsWritten}
 use Rattle.moment_steps.specs.declared.piece.Piece.{Piece}
+use Rattle.moment_steps.specs.declared.taking.UnclockedReads.{UnclockedReads}
 use Rattle.moment_steps.specs.Settled.{own_uses, stages_in}
 use Rattle.moment_steps.specs.Standing.{StandsBefore}
 use Rattle.moment_steps.specs.private.Opening.{opened_by, value_by}
@@ -61,12 +63,12 @@ outside s uses before own after ordered S m now last wide taken x le =
     reached_in [] own after x reached = reached_first own after x reached
     reached_in (first ∷ before) own after x reached = inr (reached_in before own after x reached)
 
-module _ (pure waiting : List Entry) (always : List ClockNow) (numbers : List ℕ) (cells : List Cell) (ticked : List Bool) (places : List ℕ) (slots : List (Slot Piece)) (left : Left) where
+module _ (pure waiting : List Entry) (noted : UnclockedReads) (always : List ClockNow) (numbers : List ℕ) (cells : List Cell) (ticked : List Bool) (places : List ℕ) (slots : List (Slot Piece)) (left : Left) where
   abbrev pub stages : Stages
   stages = stages_in pure waiting slots
 
   abbrev pub Stands : Standing
-  Stands s A n = StandsBefore s A n pure waiting always numbers cells ticked places slots left
+  Stands s A n = StandsBefore s A n pure waiting noted always numbers cells ticked places slots left
 
   module _ (model : ClockedModel) (now : Values) (shown : List Cell) (opens : IsWritten (opened_by numbers left.last now (λ x. Ticks)) cells shown) where
     module _ (s : Setting) (uses : List Use) (A : Assignment) (n : ℕ) (before : IsBefore stages Stands model now s uses A n) where
@@ -85,7 +87,7 @@ module _ (pure waiting : List Entry) (always : List ClockNow) (numbers : List �
       lasts entry equation z among found asks valued = absurd (clockless_last entry equation z among found asks)
 
       pure_starts : IsStart s uses [] behind A n (value_in now) (record { equations = s.model.equations; places = numbers; left = left; clocks = always }) pure shown
-      pure_starts = starts s uses [] behind pure before.moment.staged.are.ordered A n before.moment.meets pure waiting always numbers before.stands.settled left now (λ x. Ticks) cells shown before.stands.room opens
+      pure_starts = starts s uses [] behind pure before.moment.staged.are.ordered A n before.moment.meets pure waiting noted always numbers before.stands.settled left now (λ x. Ticks) cells shown before.stands.room opens
           (inputs_typed s uses stages.pure stages.pieces stages.waiting before.moment.staged.are A n before.at before.moment.here (value_in now) before.are)
           (inputs_sound s uses stages.pure stages.pieces stages.waiting before.moment.staged.are A n before.at before.moment.here (value_in now) before.are)
           (clear_at_first s uses stages.pure stages.pieces stages.waiting before.moment.staged.are A n before.at before.moment.here (value_in now) before.are)
@@ -94,7 +96,7 @@ module _ (pure waiting : List Entry) (always : List ClockNow) (numbers : List �
       pub pure_start : IsStart s uses [] behind A n (value_in now) (record { equations = model.flat.equations; places = numbers; left = left; clocks = always }) pure shown
       pure_start = subst (λ flat. IsStart s uses [] behind A n (value_in now) (record { equations = flat.equations; places = numbers; left = left; clocks = always }) pure shown) (sym before.model_is.flat) pure_starts
 
-    pub can_take_pure : CanTakePure stages Stands model now → CanStart (record { equations = model.flat.equations; places = numbers; left = left; clocks = always }) pure shown
+    pub can_take_pure : CanTakePure stages Stands model now → CanStartChanged (record { equations = model.flat.equations; places = numbers; left = left; clocks = always }) pure noted.pure shown
     can_take_pure (s, uses, A, n, before) = record {
       s = s;
       uses = uses;
@@ -104,22 +106,25 @@ module _ (pure waiting : List Entry) (always : List ClockNow) (numbers : List �
       m = n;
       base = value_in now;
       start = pure_start s uses A n before;
+      unclocked = λ entry among. (before.stands.settled.pure_plain entry among).unclocked;
+      reads_are = subst (λ flat. AreReadsOf flat.equations pure noted.pure) (sym before.model_is.flat) before.stands.settled.pure_reads;
+      left_is = record { first = before.stands.left_is.first; later = before.stands.left_is.now };
     }
 
     module _ (taken : List Cell) (told : Option EquationFailing) (takes : TakesUses (record { equations = model.flat.equations; places = numbers; left = left; clocks = always }) pure shown taken told) (size : length taken ≡ length shown)
         (after : Values) (copies : IsWritten (value_by taken) now after) (final : List Cell) (final_long : length final ≡ length taken) where
       abbrev pub Leaves : Based
-      Leaves s A n base = StandsBefore s A n pure waiting always numbers final ticked places slots left
+      Leaves s A n base = StandsBefore s A n pure waiting noted always numbers final ticked places slots left
 
       module _ (s : Setting) (uses : List Use) (A : Assignment) (n : ℕ) (before : IsBefore stages Stands model now s uses A n) where
         has : HasTaken s uses A n (value_in now) (record { equations = model.flat.equations; places = numbers; left = left; clocks = always }) pure shown taken told
         has = takes s uses [] (joined stages.pieces ++ stages.waiting) A n (value_in now) (pure_start s uses A n before)
 
         open_there : (x : ℕ) → x < length s.model.names → (cell : Cell) × (cell_in numbers shown x ≡ Some cell)
-        open_there x lt = let o = open_cell s pure waiting always numbers before.stands.settled left.last now (λ y. Ticks) cells shown before.stands.room opens x lt in (o.cell, o.found)
+        open_there x lt = let o = open_cell s pure waiting noted always numbers before.stands.settled left.last now (λ y. Ticks) cells shown before.stands.room opens x lt in (o.cell, o.found)
 
         own_is : has.own ≡ value_in after
-        own_is = fun_ext (copied s pure waiting always numbers before.stands.settled shown taken open_there has.kept now after before.wide copies has.own has.holds
+        own_is = fun_ext (copied s pure waiting noted always numbers before.stands.settled shown taken open_there has.kept now after before.wide copies has.own has.holds
             (outside s uses [] stages.pure (joined stages.pieces ++ stages.waiting) before.moment.staged.are.ordered A n now has.own before.wide has.taken))
 
         taken_pure : HasTakenPure stages Leaves now after told s uses A n

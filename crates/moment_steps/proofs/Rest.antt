@@ -44,7 +44,8 @@ use Rattle.tree_step.specs.declared.cell.Standing.{Standing}
 use Rattle.tree_step.specs.declared.frame.ClockNow.{ClockNow}
 use Rattle.tree_step.specs.declared.taking.Entry.{Entry}
 use Rattle.tree_step.specs.Cells.{cell_in}
-use Rattle.tree_step.specs.Starts.{uses_of, IsAmong, StandsAs, AreSitesApart, IsStart, CanStart}
+use Rattle.tree_step.specs.Changed.{AreReadsOf, CanStartChanged}
+use Rattle.tree_step.specs.Starts.{uses_of, IsAmong, StandsAs, AreSitesApart, IsStart}
 use Rattle.tree_step.specs.Takes.{TakesUses, HasTaken}
 use Rattle.partition_step.specs.Parts.{IsPartOf, StandsFor}
 use Rattle.partition_step.specs.Steps.{Telling, GoesOnWith, CanStep}
@@ -54,6 +55,7 @@ use Rattle.moment_body.specs.declared.model.ClockedModel.{ClockedModel}
 use Rattle.moment_body.specs.Stages.{Stages}
 use Rattle.moment_body.specs.Stepping.{Values, Based, Ended, IsBetween, CanTakeRest, HasTakenRest, TakesRest}
 use Rattle.moment_steps.specs.declared.piece.Piece.{Piece}
+use Rattle.moment_steps.specs.declared.taking.UnclockedReads.{UnclockedReads}
 use Rattle.moment_steps.specs.Gathered.{told_in, gathered_at}
 use Rattle.moment_steps.specs.Settled.{own_uses, stages_in, IsSlotOf}
 use Rattle.moment_steps.specs.Standing.{StandsBefore, HasEnded}
@@ -67,16 +69,16 @@ use Rattle.moment_steps.proofs.Pure.{outside}
 use Rattle.moment_steps.proofs.Rows.{reached_first, reached_second, member_front, member_back, row_typed, row_sound, row_clear, ordered_behind, same_site, same_ticks, site_not_waiting}
 use Rattle.moment_steps.proofs.Starting.{valued_within, OpenCell, open_cell, starts, LastSeen, stands_as}
 
-module _ (pure waiting : List Entry) (always : List ClockNow) (numbers : List ℕ) (cells : List Cell) (ticked : List Bool) (places : List ℕ) (slots : List (Slot Piece)) (left : Left)
+module _ (pure waiting : List Entry) (noted : UnclockedReads) (always : List ClockNow) (numbers : List ℕ) (cells : List Cell) (ticked : List Bool) (places : List ℕ) (slots : List (Slot Piece)) (left : Left)
     (model_now : ClockedModel) (at : Moment) (ticks : ℕ → Bool) (answers : List (Option Bool)) (now : Values) (told : List Bool) (tells : IsWritten (λ class old. ticks class) ticked told) where
   abbrev stages : Stages
   stages = stages_in pure waiting slots
 
   abbrev Before : Based
-  Before = Based-on pure waiting always numbers cells ticked places slots left
+  Before = Based-on pure waiting noted always numbers cells ticked places slots left
 
   abbrev pub telling_now : Telling
-  telling_now = telling pure waiting always numbers cells ticked places slots left model_now at (row_ticks told) answers now
+  telling_now = telling pure waiting noted always numbers cells ticked places slots left model_now at (row_ticks told) answers now
 
   module _ (s : Setting) (uses : List Use) (A : Assignment) (n : ℕ) (between : IsBetween stages Before model_now at ticks answers now s uses A n) where
     abbrev base : Row
@@ -110,10 +112,10 @@ module _ (pure waiting : List Entry) (always : List ClockNow) (numbers : List �
 
   pub can_step_all : CanTakeRest stages Before model_now at ticks answers now → (i : ℕ) (slot : Slot Piece) → slice_get slots i ≡ Some slot → CanStep telling_now slot.piece.part
   can_step_all (s, uses, A, n, between) i slot found =
-      can_step pure waiting always numbers cells ticked places slots left model_now at (row_ticks told) answers now s uses A n (between_row s uses A n between) i slot found
+      can_step pure waiting noted always numbers cells ticked places slots left model_now at (row_ticks told) answers now s uses A n (between_row s uses A n between) i slot found
 
   module _ (new : List (Slot Piece)) (stepped : AreSteppedAt telling_now model_now.clocking.partitions slots new) (gathered : Values) (gathers : IsWritten (gathered_at model_now.clocking numbers places new) now gathered)
-      (shown : List Cell) (opens : IsWritten (opened_by numbers left.last gathered (standing model_now.clocking ticks answers)) cells shown) where
+      (shown : List Cell) (opens : IsWritten (opened_by numbers left.last gathered (standing model_now.clocking (row_ticks told) answers)) cells shown) where
     module _ (s : Setting) (uses : List Use) (A : Assignment) (n : ℕ) (between : IsBetween stages Before model_now at ticks answers now s uses A n) where
       abbrev told_between : IsBetween stages Before model_now at (row_ticks told) answers now s uses A n
       told_between = between_row s uses A n between
@@ -122,13 +124,13 @@ module _ (pure waiting : List Entry) (always : List ClockNow) (numbers : List �
       row = value_in gathered
 
       abbrev own_rows : ℕ → Row
-      own_rows = owns pure waiting always numbers cells ticked places slots left model_now at (row_ticks told) answers now s uses A n told_between new stepped
+      own_rows = owns pure waiting noted always numbers cells ticked places slots left model_now at (row_ticks told) answers now s uses A n told_between new stepped
 
       abbrev rows_alone : (i : ℕ) (piece : List Use) → slice_get stages.pieces i ≡ Some piece → AreTaken s A n piece (value_in now) (own_rows i)
-      rows_alone = alone pure waiting always numbers cells ticked places slots left model_now at (row_ticks told) answers now s uses A n told_between new stepped
+      rows_alone = alone pure waiting noted always numbers cells ticked places slots left model_now at (row_ticks told) answers now s uses A n told_between new stepped
 
       abbrev rows_beside : AreBeside (value_in now) own_rows stages.pieces row
-      rows_beside = beside pure waiting always numbers cells ticked places slots left model_now at (row_ticks told) answers now s uses A n told_between new stepped gathered gathers
+      rows_beside = beside pure waiting noted always numbers cells ticked places slots left model_now at (row_ticks told) answers now s uses A n told_between new stepped gathered gathers
 
       wide_row : length gathered ≡ length s.model.names
       wide_row = gathers.size ∙ between.wide
@@ -137,8 +139,8 @@ module _ (pure waiting : List Entry) (always : List ClockNow) (numbers : List �
       ordered = subst (λ us. IsOrdered s uses ((stages.pure ++ joined stages.pieces) ++ us)) (sym (bare_end stages.waiting))
           (ordered_behind s uses stages.pure stages.pieces stages.waiting between.moment.staged.are A n at between.moment.here between.inputs between.are (value_in now) between.taken own_rows rows_alone row rows_beside)
 
-      opens_here : IsWritten (opened_by numbers left.last gathered (standing s.clocking ticks answers)) cells shown
-      opens_here = subst (λ k. IsWritten (opened_by numbers left.last gathered (standing k ticks answers)) cells shown) between.model_is.clocking opens
+      opens_here : IsWritten (opened_by numbers left.last gathered (standing s.clocking (row_ticks told) answers)) cells shown
+      opens_here = subst (λ k. IsWritten (opened_by numbers left.last gathered (standing k (row_ticks told) answers)) cells shown) between.model_is.clocking opens
 
       apart : AreSitesApart s (uses_of waiting) waiting
       apart entry class y among asks reads reached = site_not_waiting s uses stages.pure stages.pieces stages.waiting between.moment.staged.are between.moment.staged.reach class y reads reached
@@ -146,20 +148,20 @@ module _ (pure waiting : List Entry) (always : List ClockNow) (numbers : List �
       lasts : (entry : Entry) (equation : Equation) (z : ℕ) → IsAmong entry waiting → slice_get s.model.equations entry.equation ≡ Some equation → AsksLast equation z → IsValued s z → LastSeen s A n row numbers shown z
       lasts entry equation z among found asks valued =
           let lt = valued_within s z valued in
-          let o = open_cell s pure waiting always numbers between.based.settled left.last gathered (standing s.clocking ticks answers) cells shown between.based.room opens_here z lt in
+          let o = open_cell s pure waiting noted always numbers between.based.settled left.last gathered (standing s.clocking (row_ticks told) answers) cells shown between.based.room opens_here z lt in
           let (last, last_found) = some_at left.last z (let long = between.based.left_is.long in omega (arith, lt, long)) in (
             o.cell,
             o.found,
             sym (between.based.left_is.last z valued) ∙ last_found ∙ ap Some (sym (ap (λ c. c.kept) o.is ∙ ap (λ v. unwrap_or v o.was.kept) last_found)),
             subst (λ how. StandsAs s (with_row A n row) n (class_of_name s z) how) (sym (ap (λ c. c.standing) o.is))
-                (stands_as s A n (value_in now) row ticks answers between.ticks_are (λ site. answer_flat (slice_get answers site) ∙ between.answers_are site)
+                (stands_as s A n (value_in now) row (row_ticks told) answers (row_is s uses A n between) (λ site. answer_flat (slice_get answers site) ∙ between.answers_are site)
                 (same_site s uses stages.pure stages.pieces stages.waiting between.moment.staged.are A n at between.moment.here between.inputs between.are (value_in now) between.taken own_rows rows_alone row rows_beside between.moment.staged.reach)
                 (same_ticks s uses stages.pure stages.pieces stages.waiting between.moment.staged.are A n at between.moment.here between.inputs between.are (value_in now) between.taken own_rows rows_alone row rows_beside between.moment.staged.reach)
                 (class_of_name s z)),
           )
 
       rest_starts : IsStart s uses (stages.pure ++ joined stages.pieces) [] A n row (record { equations = s.model.equations; places = numbers; left = left; clocks = always }) waiting shown
-      rest_starts = starts s uses (stages.pure ++ joined stages.pieces) [] waiting ordered A n between.moment.meets pure waiting always numbers between.based.settled left gathered (standing s.clocking ticks answers) cells shown between.based.room opens_here
+      rest_starts = starts s uses (stages.pure ++ joined stages.pieces) [] waiting ordered A n between.moment.meets pure waiting noted always numbers between.based.settled left gathered (standing s.clocking (row_ticks told) answers) cells shown between.based.room opens_here
           (row_typed s uses stages.pure stages.pieces stages.waiting between.moment.staged.are A n at between.moment.here between.inputs between.are (value_in now) between.taken own_rows rows_alone row rows_beside)
           (row_sound s uses stages.pure stages.pieces stages.waiting between.moment.staged.are A n at between.moment.here between.inputs between.are (value_in now) between.taken own_rows rows_alone row rows_beside)
           (row_clear s uses stages.pure stages.pieces stages.waiting between.moment.staged.are A n at between.moment.here between.inputs between.are (value_in now) between.taken own_rows rows_alone row rows_beside)
@@ -168,7 +170,7 @@ module _ (pure waiting : List Entry) (always : List ClockNow) (numbers : List �
       pub rest_start : IsStart s uses (stages.pure ++ joined stages.pieces) [] A n row (record { equations = model_now.flat.equations; places = numbers; left = left; clocks = always }) waiting shown
       rest_start = subst (λ flat. IsStart s uses (stages.pure ++ joined stages.pieces) [] A n row (record { equations = flat.equations; places = numbers; left = left; clocks = always }) waiting shown) (sym between.model_is.flat) rest_starts
 
-    pub can_take_rest : CanTakeRest stages Before model_now at ticks answers now → CanStart (record { equations = model_now.flat.equations; places = numbers; left = left; clocks = always }) waiting shown
+    pub can_take_rest : CanTakeRest stages Before model_now at ticks answers now → CanStartChanged (record { equations = model_now.flat.equations; places = numbers; left = left; clocks = always }) waiting noted.waiting shown
     can_take_rest (s, uses, A, n, between) = record {
       s = s;
       uses = uses;
@@ -178,13 +180,16 @@ module _ (pure waiting : List Entry) (always : List ClockNow) (numbers : List �
       m = n;
       base = value_in gathered;
       start = rest_start s uses A n between;
+      unclocked = λ entry among. (between.based.settled.waiting_plain entry among).unclocked;
+      reads_are = subst (λ flat. AreReadsOf flat.equations waiting noted.waiting) (sym between.model_is.flat) between.based.settled.waiting_reads;
+      left_is = record { first = between.based.left_is.first; later = between.based.left_is.now };
     }
 
     module _ (taken : List Cell) (behind : Option EquationFailing) (takes : TakesUses (record { equations = model_now.flat.equations; places = numbers; left = left; clocks = always }) waiting shown taken behind) (size : length taken ≡ length shown)
         (last : Values) (copies : IsWritten (value_by taken) gathered last) (final : List Cell) (final_long : length final ≡ length taken) (told_final : List Bool) (told_long : length told_final ≡ length told)
         (result : Option EquationFailing) (result_is : result ≡ earliest (behind ∷ map told_in new)) where
       abbrev pub Leaves : Ended
-      Leaves s A n base end = HasEnded s A n end pure waiting always numbers final told_final places new left
+      Leaves s A n base end = HasEnded s A n end pure waiting noted always numbers final told_final places new left
 
       module _ (s : Setting) (uses : List Use) (A : Assignment) (n : ℕ) (between : IsBetween stages Before model_now at ticks answers now s uses A n) where
         abbrev t : IsBetween stages Before model_now at (row_ticks told) answers now s uses A n
@@ -200,19 +205,19 @@ module _ (pure waiting : List Entry) (always : List ClockNow) (numbers : List �
         end = value_in last
 
         abbrev ows : ℕ → Row
-        ows = owns pure waiting always numbers cells ticked places slots left model_now at (row_ticks told) answers now s uses A n t new stepped
+        ows = owns pure waiting noted always numbers cells ticked places slots left model_now at (row_ticks told) answers now s uses A n t new stepped
 
         has : HasTaken s uses A n mid (record { equations = model_now.flat.equations; places = numbers; left = left; clocks = always }) waiting shown taken behind
         has = takes s uses (stages.pure ++ joined stages.pieces) [] A n mid (rest_start s uses A n between)
 
-        opens_here' : IsWritten (opened_by numbers left.last gathered (standing s.clocking ticks answers)) cells shown
-        opens_here' = subst (λ k. IsWritten (opened_by numbers left.last gathered (standing k ticks answers)) cells shown) between.model_is.clocking opens
+        opens_here' : IsWritten (opened_by numbers left.last gathered (standing s.clocking (row_ticks told) answers)) cells shown
+        opens_here' = subst (λ k. IsWritten (opened_by numbers left.last gathered (standing k (row_ticks told) answers)) cells shown) between.model_is.clocking opens
 
         open_there : (x : ℕ) → x < length s.model.names → (cell : Cell) × (cell_in numbers shown x ≡ Some cell)
-        open_there x lt = let o = open_cell s pure waiting always numbers between.based.settled left.last gathered (standing s.clocking ticks answers) cells shown between.based.room opens_here' x lt in (o.cell, o.found)
+        open_there x lt = let o = open_cell s pure waiting noted always numbers between.based.settled left.last gathered (standing s.clocking (row_ticks told) answers) cells shown between.based.room opens_here' x lt in (o.cell, o.found)
 
         own_is : has.own ≡ end
-        own_is = fun_ext (copied s pure waiting always numbers between.based.settled shown taken open_there has.kept gathered last (gathers.size ∙ between.wide) copies has.own has.holds
+        own_is = fun_ext (copied s pure waiting noted always numbers between.based.settled shown taken open_there has.kept gathered last (gathers.size ∙ between.wide) copies has.own has.holds
             (outside s uses (stages.pure ++ joined stages.pieces) stages.waiting [] (rest_start s uses A n between).ordered A n gathered has.own (gathers.size ∙ between.wide) has.taken))
 
         waited : AreTaken s A n stages.waiting mid end
@@ -222,8 +227,8 @@ module _ (pure waiting : List Entry) (always : List ClockNow) (numbers : List �
         staged = record {
           are = between.are;
           first = between.taken;
-          alone = alone pure waiting always numbers cells ticked places slots left model_now at (row_ticks told) answers now s uses A n t new stepped;
-          beside = beside pure waiting always numbers cells ticked places slots left model_now at (row_ticks told) answers now s uses A n t new stepped gathered gathers;
+          alone = alone pure waiting noted always numbers cells ticked places slots left model_now at (row_ticks told) answers now s uses A n t new stepped;
+          beside = beside pure waiting noted always numbers cells ticked places slots left model_now at (row_ticks told) answers now s uses A n t new stepped gathered gathers;
           behind = waited;
         }
 
@@ -243,16 +248,16 @@ module _ (pure waiting : List Entry) (always : List ClockNow) (numbers : List �
         ticks_end class = class_ticks_by_site s (with_row A n from) T class n (λ x k lt. row_before A n from x k lt ∙ sym (row_before A n end x k lt)) (λ site factor shift e. alike.answers site)
 
         module _ (i : ℕ) (slot : Slot Piece) (found : slice_get new i ≡ Some slot) where
-          abbrev of_slot : SlotRow pure waiting always numbers cells ticked places slots left model_now at (row_ticks told) answers now s uses A n t new stepped i slot
-          of_slot = slot_row pure waiting always numbers cells ticked places slots left model_now at (row_ticks told) answers now s uses A n t new stepped i slot found
+          abbrev of_slot : SlotRow pure waiting noted always numbers cells ticked places slots left model_now at (row_ticks told) answers now s uses A n t new stepped i slot
+          of_slot = slot_row pure waiting noted always numbers cells ticked places slots left model_now at (row_ticks told) answers now s uses A n t new stepped i slot found
 
           row_of_slot : of_slot.row ≡ ows i
-          row_of_slot = owns_is pure waiting always numbers cells ticked places slots left model_now at (row_ticks told) answers now s uses A n t new stepped i slot found
+          row_of_slot = owns_is pure waiting noted always numbers cells ticked places slots left model_now at (row_ticks told) answers now s uses A n t new stepped i slot found
 
           slot_is : IsSlotOf s places i slot
           slot_is = record {
             part_of = subst (λ us. IsPartOf s us places slot.piece.part) (sym of_slot.same) of_slot.part_of;
-            partition = λ entry own. of pure waiting always numbers cells ticked places slots left model_now at (row_ticks told) answers now s uses A n t i of_slot.own of_slot.piece entry (subst (λ us. Contains us entry) of_slot.same own);
+            partition = λ entry own. of pure waiting noted always numbers cells ticked places slots left model_now at (row_ticks told) answers now s uses A n t i of_slot.own of_slot.piece entry (subst (λ us. Contains us entry) of_slot.same own);
           }
 
           -- where the last row meets the model, no equation of the piece failed
@@ -293,7 +298,7 @@ module _ (pure waiting : List Entry) (always : List ClockNow) (numbers : List �
             stands_next : StandsFor s T (suc n) slot.piece.part
             stands_next = of_slot.goes_on (none_by (told_in slot) of_slot.told) T goes_on
 
-        ended : HasEnded s A n end pure waiting always numbers final told_final places new left
+        ended : HasEnded s A n end pure waiting noted always numbers final told_final places new left
         ended = record {
           settled = between.based.settled;
           room = final_long ∙ size ∙ opens.size ∙ between.based.room;
@@ -313,8 +318,8 @@ module _ (pure waiting : List Entry) (always : List ClockNow) (numbers : List �
           alone = staged.alone;
           beside = staged.beside;
           waited = waited;
-          each_told = told_at pure waiting always numbers cells ticked places slots left model_now at (row_ticks told) answers now s uses A n t new stepped;
-          no_more = no_more pure waiting always numbers cells ticked places slots left model_now at (row_ticks told) answers now s uses A n t new stepped;
+          each_told = told_at pure waiting noted always numbers cells ticked places slots left model_now at (row_ticks told) answers now s uses A n t new stepped;
+          no_more = no_more pure waiting noted always numbers cells ticked places slots left model_now at (row_ticks told) answers now s uses A n t new stepped;
           behind_told = subst (λ r. IsLeast (FailsAmong s uses A n stages.waiting r) behind) own_is has.told;
           told_is = result_is;
           ended = ended;
@@ -324,10 +329,10 @@ module _ (pure waiting : List Entry) (always : List ClockNow) (numbers : List �
       takes_rest s uses A n between = taken_rest s uses A n between
 
 -- there are few classes
-pub may_tell : (pure waiting : List Entry) (always : List ClockNow) (numbers : List ℕ) (cells : List Cell) (ticked : List Bool) (places : List ℕ) (slots : List (Slot Piece)) (left : Left)
+pub may_tell : (pure waiting : List Entry) (noted : UnclockedReads) (always : List ClockNow) (numbers : List ℕ) (cells : List Cell) (ticked : List Bool) (places : List ℕ) (slots : List (Slot Piece)) (left : Left)
     (model_now : ClockedModel) (at : Moment) (ticks : ℕ → Bool) (answers : List (Option Bool)) (now : Values)
-    → CanTakeRest (stages_in pure waiting slots) (Based-on pure waiting always numbers cells ticked places slots left) model_now at ticks answers now → length ticked < 2 ^ 32
-may_tell pure waiting always numbers cells ticked places slots left model_now at ticks answers now (s, uses, A, n, between) =
+    → CanTakeRest (stages_in pure waiting slots) (Based-on pure waiting noted always numbers cells ticked places slots left) model_now at ticks answers now → length ticked < 2 ^ 32
+may_tell pure waiting noted always numbers cells ticked places slots left model_now at ticks answers now (s, uses, A, n, between) =
     let few = between.based.few in let room = between.based.told_room in omega (arith, few, room)
 
 -- the stages stay where each slot was stepped or rests

@@ -47,6 +47,7 @@ use Rattle.tree_step.proofs.Plain.{left_asks}
 use Rattle.partition_step.specs.private.Writing.{IsWritten}
 use Rattle.partition_step.proofs.Lists.{some_at, written_at, written_back}
 use Rattle.partition_step.proofs.Placing.{own_there, IsThere, there}
+use Rattle.moment_steps.specs.declared.taking.UnclockedReads.{UnclockedReads}
 use Rattle.moment_steps.proofs.Rows.{reached_first, reached_second}
 use Rattle.moment_steps.specs.Settled.{IsPlainEntry, AlwaysTicks, IsSettled}
 use Rattle.moment_steps.specs.Standing.{IsLeftAt}
@@ -89,7 +90,7 @@ among_reached (first ∷ rest) e (inr among) = inr (among_reached rest e among)
 
 -- ---- open cells
 
-module _ (s : Setting) (pure waiting : List Entry) (always : List ClockNow) (numbers : List ℕ) (settled : IsSettled s pure waiting always numbers)
+module _ (s : Setting) (pure waiting : List Entry) (noted : UnclockedReads) (always : List ClockNow) (numbers : List ℕ) (settled : IsSettled s pure waiting noted always numbers)
     (last : List Value) (now : List (Option Value)) (standings : ℕ → Standing) (old cells : List Cell) (wide : length old ≡ length s.model.names)
     (opens : IsWritten (opened_by numbers last now standings) old cells) where
   pub record OpenCell (x : ℕ) : Type 0 where
@@ -125,7 +126,7 @@ abbrev pub LastSeen : Setting → Assignment → ℕ → Row → List ℕ → Li
 LastSeen s S m base numbers cells z = (cell : Cell) × (cell_in numbers cells z ≡ Some cell) × KeepsLast s S m z cell × StandsAs s (with_row S m base) m (class_of_name s z) cell.standing
 
 module _ (s : Setting) (uses before after : List Use) (entries : List Entry) (ordered : IsOrdered s uses (before ++ (uses_of entries ++ after))) (S : Assignment) (m : ℕ) (meets : MeetsBefore s S m)
-    (pure waiting : List Entry) (always : List ClockNow) (numbers : List ℕ) (settled : IsSettled s pure waiting always numbers) (left : Left)
+    (pure waiting : List Entry) (noted : UnclockedReads) (always : List ClockNow) (numbers : List ℕ) (settled : IsSettled s pure waiting noted always numbers) (left : Left)
     (now : List (Option Value)) (standings : ℕ → Standing) (old cells : List Cell) (wide : length old ≡ length s.model.names)
     (opens : IsWritten (opened_by numbers left.last now standings) old cells)
     (typed : IsTypedRow s (value_in now)) (sound : IsSound s (with_row S m (value_in now)) m) (clear : IsClear (uses_of entries) (value_in now))
@@ -138,7 +139,7 @@ module _ (s : Setting) (uses before after : List Use) (entries : List Entry) (or
   clock = settled.always_ticks.clock
 
   has_cell : (x : ℕ) → x < length s.model.names → HasCell numbers cells x
-  has_cell x lt = let o = open_cell s pure waiting always numbers settled left.last now standings old cells wide opens x lt in (o.cell, o.found)
+  has_cell x lt = let o = open_cell s pure waiting noted always numbers settled left.last now standings old cells wide opens x lt in (o.cell, o.found)
 
   told : IsClockTold s S m (value_in now) None clock
   told = record {
@@ -198,7 +199,7 @@ module _ (s : Setting) (uses before after : List Use) (entries : List Entry) (or
       clear = clear;
       apart = apart;
       model = refl;
-      holds = open_holds s pure waiting always numbers settled left.last now standings old cells wide opens;
+      holds = open_holds s pure waiting noted always numbers settled left.last now standings old cells wide opens;
       each = entry_is;
     }
 

@@ -8,12 +8,14 @@ use Rattle.eq_orient.specs.Spine.{IsSpineOf}
 use Rattle.fork_steps.specs.declared.slot.Slot.{Slot}
 use Rattle.tree_step.specs.declared.frame.ClockNow.{ClockNow}
 use Rattle.tree_step.specs.declared.taking.Entry.{Entry}
+use Rattle.tree_step.specs.Changed.{AreReadsOf}
 use Rattle.tree_step.specs.Frames.{told_elapsed}
 use Rattle.tree_step.specs.Starts.{uses_of, IsAmong}
 use Rattle.moment_body.specs.Stages.{Stages}
 use Rattle.partition_step.specs.Parts.{IsPartOf}
 use Rattle.partition_step.specs.Steps.{AreMeasured}
 use Rattle.moment_steps.specs.declared.piece.Piece.{Piece}
+use Rattle.moment_steps.specs.declared.taking.UnclockedReads.{UnclockedReads}
 
 -- the uses of a slot's part
 abbrev pub own_uses : Slot Piece → List Use
@@ -38,14 +40,16 @@ pub record AlwaysTicks (always : List ClockNow) : Type 0 where
   pub ticks : clock.ticks ≡ true
   pub measured : IsMeasurable (told_elapsed clock.first clock.interval)
 
--- the unclocked uses of a model, with the numbers of its names; and its instants can be measured
-pub record IsSettled (s : Setting) (pure waiting : List Entry) (always : List ClockNow) (numbers : List ℕ) : Type 0 where
+-- the unclocked uses of a model, with what they read and the numbers of its names; and its instants can be measured
+pub record IsSettled (s : Setting) (pure waiting : List Entry) (noted : UnclockedReads) (always : List ClockNow) (numbers : List ℕ) : Type 0 where
   pub measured : AreMeasured s.instants
   pub always_ticks : AlwaysTicks always
   pub long : length numbers ≡ length s.model.names
   pub numbered : (x : ℕ) → x < length s.model.names → slice_get numbers x ≡ Some x
   pub pure_plain : (entry : Entry) → IsAmong entry pure → IsPlainEntry s entry
   pub waiting_plain : (entry : Entry) → IsAmong entry waiting → IsPlainEntry s entry
+  pub pure_reads : AreReadsOf s.model.equations pure noted.pure
+  pub waiting_reads : AreReadsOf s.model.equations waiting noted.waiting
 
 -- a slot has the part of the base partition of its number
 pub record IsSlotOf (s : Setting) (places : List ℕ) (i : ℕ) (slot : Slot Piece) : Type 0 where

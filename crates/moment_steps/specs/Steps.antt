@@ -11,12 +11,12 @@ stages_of w = stages_in w.pure w.waiting w.slots.items
 
 -- before a moment
 abbrev pub stands_of : StagedSteps → Standing
-stands_of w s A n = StandsBefore s A n w.pure w.waiting w.always w.numbers w.cells.items w.ticks.items w.places w.slots.items w.left
+stands_of w s A n = StandsBefore s A n w.pure w.waiting w.reads w.always w.numbers w.cells.items w.ticks.items w.places w.slots.items w.left
 
 -- the same once the pure uses were taken
 abbrev pub based_of : StagedSteps → Based
-based_of w s A n base = StandsBefore s A n w.pure w.waiting w.always w.numbers w.cells.items w.ticks.items w.places w.slots.items w.left
+based_of w s A n base = StandsBefore s A n w.pure w.waiting w.reads w.always w.numbers w.cells.items w.ticks.items w.places w.slots.items w.left
 
 -- and once all were
 abbrev pub ended_of : StagedSteps → Ended
-ended_of w s A n base last = HasEnded s A n last w.pure w.waiting w.always w.numbers w.cells.items w.ticks.items w.places w.slots.items w.left
+ended_of w s A n base last = HasEnded s A n last w.pure w.waiting w.reads w.always w.numbers w.cells.items w.ticks.items w.places w.slots.items w.left

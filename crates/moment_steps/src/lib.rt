@@ -15,4 +15,5 @@ mod ticks;
 
 pub use piece::{Piece, Scene};
 pub use staged::StagedSteps;
+pub use taking::UnclockedReads;
 pub use ticks::TickRow;

@@ -3,6 +3,7 @@ ghost use Rattle.std.specs.Prelude.{◌≡◌, ◌<◌, ◌+◌, length};
 ghost use Rattle.moment_steps.specs.Ticked.{row_ticks};
 ghost use Rattle.moment_steps.specs.private.Marking.{AreSamePieces, IsMarkedAt, AreMarkedTo, AreMarked};
 
+use crate::ticks::ticks_at;
 use fork_steps::Slot;
 
 /// Lets no slot count.
@@ -21,16 +22,6 @@ fn mark_one<T>(slots: &mut [Slot<T>], place: u32)
 {
     if (place as usize) < slots.len() {
         slots[place as usize].counts = true;
-    }
-}
-
-/// Whether a class ticks.
-fn ticks_at(ticks: &[bool], class: usize) -> bool
-    ensures { result ≡ row_ticks ticks.now class }
-{
-    match ticks.get(class) {
-        Some(ticks) => *ticks,
-        None => false,
     }
 }
 

@@ -1,12 +1,13 @@
 //! The cells of all names, before unclocked uses are taken.
 ghost use Rattle.std.specs.Prelude.{◌≡◌, ◌<◌, ◌^◌, length};
 ghost use Rattle.tree_step.specs.declared.cell.Standing.TheVariants.{Ticks};
+ghost use Rattle.moment_steps.specs.Ticked.{row_ticks};
 ghost use Rattle.moment_steps.specs.private.Opening as spec;
 ghost use Rattle.partition_step.specs.private.Writing.{IsWritten};
 
+use crate::ticks::ticks_at;
 use flat_model::{Clock, Clocking};
 use sync_values::Value;
-use tick_plan::Ticking;
 use tree_step::{Cell, Standing};
 
 /// A cell with the value of the name of this number.
@@ -56,17 +57,12 @@ fn resting(clock: Option<Clock>, answers: &[Option<bool>]) -> Standing
 }
 
 /// How the clock of a name stands.
-fn standing<P: Ticking>(
-    clocking: &Clocking,
-    plan: &P,
-    answers: &[Option<bool>],
-    at: usize,
-) -> Standing
-    ensures { result ≡ spec.standing clocking.now (P.ticks plan.now) answers.now at }
+fn standing(clocking: &Clocking, ticks: &[bool], answers: &[Option<bool>], at: usize) -> Standing
+    ensures { result ≡ spec.standing clocking.now (row_ticks ticks.now) answers.now at }
 {
     match clocking.of_name.as_slice().get(at) {
         Some(Some(class)) => {
-            if plan.ticking(*class) {
+            if ticks_at(ticks, *class as usize) {
                 return Standing::Ticks;
             }
             resting(
@@ -80,9 +76,9 @@ fn standing<P: Ticking>(
 }
 
 /// A cell with how the clock of its name stands.
-fn opened_ticking<P: Ticking>(
+fn opened_ticking(
     clocking: &Clocking,
-    plan: &P,
+    ticks: &[bool],
     answers: &[Option<bool>],
     numbers: &[u32],
     last: &[Value],
@@ -90,25 +86,25 @@ fn opened_ticking<P: Ticking>(
     at: usize,
     old: Cell,
 ) -> Cell
-    ensures { result ≡ spec.opened_by numbers.now last.now now.now (spec.standing clocking.now (P.ticks plan.now) answers.now) at old }
+    ensures { result ≡ spec.opened_by numbers.now last.now now.now (spec.standing clocking.now (row_ticks ticks.now) answers.now) at old }
 {
-    let standing = standing(clocking, plan, answers, at);
+    let standing = standing(clocking, ticks, answers, at);
     opened(numbers, last, now, at, standing, old)
 }
 
 /// Opens the cells with how the clocks of their names stand.
-pub(crate) fn open_ticking<P: Ticking>(
+pub(crate) fn open_ticking(
     clocking: &Clocking,
-    plan: &P,
+    ticks: &[bool],
     answers: &[Option<bool>],
     numbers: &[u32],
     last: &[Value],
     now: &[Option<Value>],
     cells: &mut [Cell],
 )
-    ensures { IsWritten (spec.opened_by numbers.now last.now now.now (spec.standing clocking.now (P.ticks plan.now) answers.now)) cells.old cells.new }
+    ensures { IsWritten (spec.opened_by numbers.now last.now now.now (spec.standing clocking.now (row_ticks ticks.now) answers.now)) cells.old cells.new }
 {
     for at in 0..cells.len() {
-        cells[at] = opened_ticking(clocking, plan, answers, numbers, last, now, at, cells[at]);
+        cells[at] = opened_ticking(clocking, ticks, answers, numbers, last, now, at, cells[at]);
     }
 }

@@ -7,7 +7,7 @@ use crate::keeping::keep_left;
 use crate::opening::{open_plain, open_ticking};
 use crate::piece::{Piece, Scene};
 use crate::stepping::step_parts;
-use crate::taking::take_unclocked;
+use crate::taking::{UnclockedReads, take_unclocked};
 use crate::telling::{earlier, least_told};
 use crate::ticks::tell;
 use first_failure::EquationFailing;
@@ -28,6 +28,8 @@ pub struct StagedSteps {
     pub pure: List<Entry>,
     /// The unclocked uses that wait for a clock, in their order.
     pub waiting: List<Entry>,
+    /// What these uses read.
+    pub reads: UnclockedReads,
     /// What is told of no clock: that it ticks.
     pub always: List<ClockNow>,
     /// The numbers of all names, which are also the places of their cells.
@@ -56,8 +58,8 @@ impl StagedSteps {
         moment_inputs::fill_inputs(&model.table, at, now);
     }
 
-    /// Takes the uses that no clock decides of, over the values of the inputs. The answer is the failing equation of the
-    /// least number. It takes no memory.
+    /// Takes the uses that no clock decides of, over the values of the inputs. An equation is evaluated only where a name that
+    /// it reads changed. The answer is the failing equation of the least number. It takes no memory.
     pub fn take_pure(
         &mut self,
         model: &ClockedModel,
@@ -76,13 +78,15 @@ impl StagedSteps {
             &self.left,
             self.always.as_slice(),
             self.pure.as_slice(),
+            self.reads.pure.as_slice(),
             cells,
             now,
         )
     }
 
-    /// Takes the uses of each base partition of which a class ticks, side by side, and then those that wait for a clock. The
-    /// answer is the failing equation of the least number. It takes no memory but that of threads.
+    /// Takes the uses of each base partition of which a class ticks, side by side, and then those that wait for a clock. Of
+    /// these an equation is evaluated only where a name that it reads changed, or one that it holds may tick. The answer is the
+    /// failing equation of the least number. It takes no memory but that of threads.
     pub fn take_rest<R: Threads + Sync, G: Gate + Sync, P: Ticking>(
         &mut self,
         rt: &R,
@@ -116,13 +120,14 @@ impl StagedSteps {
         gather(&model.clocking, numbers, places, slots, now);
         let told = least_told(slots);
         let last = self.left.last.as_slice();
-        open_ticking(&model.clocking, plan, answers, numbers, last, now, cells);
+        open_ticking(&model.clocking, ticks, answers, numbers, last, now, cells);
         let behind = take_unclocked(
             &model.flat,
             numbers,
             &self.left,
             self.always.as_slice(),
             self.waiting.as_slice(),
+            self.reads.waiting.as_slice(),
             cells,
             now,
         );

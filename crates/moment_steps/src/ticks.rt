@@ -17,10 +17,17 @@ impl<'a> Ticking for TickRow<'a> {
     ghost ticks = { λ row. row_ticks row.ticks.now };
 
     fn ticking(&self, class: u32) -> bool {
-        match self.ticks.get(class as usize) {
-            Some(ticks) => *ticks,
-            None => false,
-        }
+        ticks_at(self.ticks, class as usize)
+    }
+}
+
+/// Whether a class ticks, as a row tells it.
+pub(crate) fn ticks_at(ticks: &[bool], class: usize) -> bool
+    ensures { result ≡ row_ticks ticks.now class }
+{
+    match ticks.get(class) {
+        Some(ticks) => *ticks,
+        None => false,
     }
 }
 

@@ -7,6 +7,7 @@ use Rattle.std.specs.Prelude.{All}
 use Rattle.flat_model.specs.declared.clock.Clocking.{Clocking}
 use Rattle.flat_model.specs.declared.model.FlatModel.{FlatModel}
 use Rattle.flat_model.specs.declared.table.Left.{Left}
+use Rattle.flat_model.specs.Answers.{value_in}
 use Rattle.flat_model.specs.Assignment.{Assignment}
 use Rattle.flat_model.specs.Setting.{Setting, class_of_equation, partition_of, start_in}
 use Rattle.flat_model.specs.Uses as flat
@@ -19,6 +20,7 @@ use Rattle.fork_steps.specs.declared.slot.Slot.{Slot}
 use Rattle.tree_step.specs.declared.cell.Cell.{Cell}
 use Rattle.tree_step.specs.declared.frame.ClockNow.{ClockNow}
 use Rattle.tree_step.specs.declared.taking.Entry.{Entry}
+use Rattle.tree_step.specs.Changed.{AreReadsOf}
 use Rattle.tree_step.specs.Starts.{uses_of, IsAmong}
 use Rattle.moment_order.specs.declared.stage.Stage.{Stage}
 use Rattle.moment_order.specs.declared.stage.Stage.TheVariants.{Pure, Partition, Waiting}
@@ -29,6 +31,7 @@ use Rattle.moment_body.specs.Stages.{AreStages}
 use Rattle.partition_step.specs.Parts.{IsPartOf}
 use Rattle.partition_step.proofs.Lists.{lists_same, some_at, at_map}
 use Rattle.moment_steps.specs.declared.piece.Piece.{Piece}
+use Rattle.moment_steps.specs.declared.taking.UnclockedReads.{UnclockedReads}
 use Rattle.moment_steps.specs.Settled.{own_uses, stages_in, AlwaysTicks, IsSettled}
 use Rattle.moment_steps.specs.Standing.{IsLeftAt, StandsBefore}
 use Rattle.moment_steps.proofs.Rows.{is_piece}
@@ -40,10 +43,11 @@ use Rattle.steps_ready.proofs.Staged.{taken_uses, taken_spines, entries_uses, at
 
 -- ---- the last values are the starts
 
-pub left_first : (s : Setting) (A : Assignment) (left : Left) → length left.now ≡ length s.model.names → left.last ≡ map start_of s.model.names → IsLeftAt s A 0 left
-left_first s A left wide starts = record {
+pub left_first : (s : Setting) (A : Assignment) (left : Left) → length left.now ≡ length s.model.names → ((y : ℕ) → value_in left.now y ≡ None) → left.last ≡ map start_of s.model.names → IsLeftAt s A 0 left
+left_first s A left wide none starts = record {
   wide = wide;
   long = ap length starts ∙ length-map s.model.names start_of;
+  first = λ y e. none y;
   now = λ y k e. absurd (omega (arith, e));
   last = λ x valued. ap (λ vs. slice_get vs x) starts ∙ at_map start_of s.model.names x valued.name valued.found ∙ sym (ap (λ o. Some (start_in o)) valued.found);
 }
@@ -144,10 +148,10 @@ module _ (model : FlatModel) (clocking : Clocking) (order : List Use) (stages : 
 
   -- ---- what stands
 
-  module _ (always : List ClockNow) (numbers : List ℕ) (cells : List Cell) (ticked : List Bool) (left : Left) (ticks : AlwaysTicks always) (long : length numbers ≡ length model.names)
+  module _ (noted : UnclockedReads) (pure_reads : AreReadsOf model.equations pure noted.pure) (waiting_reads : AreReadsOf model.equations waiting noted.waiting) (always : List ClockNow) (numbers : List ℕ) (cells : List Cell) (ticked : List Bool) (left : Left) (ticks : AlwaysTicks always) (long : length numbers ≡ length model.names)
       (numbered : (x : ℕ) → x < length model.names → slice_get numbers x ≡ Some x) (room : length cells ≡ length model.names) (told_room : length ticked ≡ length clocking.clocks) (few : length clocking.clocks < 2 ^ 32)
-      (wide : length left.now ≡ length model.names) (starts : left.last ≡ map start_of model.names) where
-    settled : IsSettled s pure waiting always numbers
+      (wide : length left.now ≡ length model.names) (none : (y : ℕ) → value_in left.now y ≡ None) (starts : left.last ≡ map start_of model.names) where
+    settled : IsSettled s pure waiting noted always numbers
     settled = record {
       measured = from.measured;
       always_ticks = ticks;
@@ -159,9 +163,11 @@ module _ (model : FlatModel) (clocking : Clocking) (order : List Use) (stages : 
       waiting_plain = λ entry among. plain s (taken_at Waiting stages order) (taken_spines s.model.equations Waiting stages order spines)
           (λ e member. unclocked_waiting e (subst (λ us. Contains us e) (taken_uses Waiting stages order) (member_contains e (map use_of (taken_at Waiting stages order)) member)))
           entry (subst (λ es. IsAmong entry es) divided.waiting_are among);
+      pure_reads = subst (λ m. AreReadsOf m.equations pure noted.pure) (sym from.model) pure_reads;
+      waiting_reads = subst (λ m. AreReadsOf m.equations waiting noted.waiting) (sym from.model) waiting_reads;
     }
 
-    pub stands : (A : Assignment) → StandsBefore s A 0 pure waiting always numbers cells ticked places slots left
+    pub stands : (A : Assignment) → StandsBefore s A 0 pure waiting noted always numbers cells ticked places slots left
     stands A = record {
       settled = settled;
       room = subst (λ m. length cells ≡ length m.names) (sym from.model) room;
@@ -172,6 +178,6 @@ module _ (model : FlatModel) (clocking : Clocking) (order : List Use) (stages : 
             part_of = subst (λ us. IsPartOf s us places slot.piece.part) (sym is.part_of.laid.uses_are) is.part_of;
             partition = λ entry has. of_piece i (own_uses slot) (own_found i slot found) entry has;
           };
-      left_is = left_first s A left (subst (λ m. length left.now ≡ length m.names) (sym from.model) wide) (subst (λ m. left.last ≡ map start_of m.names) (sym from.model) starts);
+      left_is = left_first s A left (subst (λ m. length left.now ≡ length m.names) (sym from.model) wide) none (subst (λ m. left.last ≡ map start_of m.names) (sym from.model) starts);
       stand = λ i slot found. let (own, at, is) = slot_ready i slot found in is.stands A;
     }

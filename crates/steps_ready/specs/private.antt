@@ -1,3 +1,4 @@
 pub mod Division
 pub mod Parting
+pub mod Reading
 pub mod Starting

@@ -5,6 +5,7 @@ mod counting;
 mod division;
 mod parting;
 mod preparing;
+mod reads;
 mod starting;
 
 pub use preparing::prepare_steps;

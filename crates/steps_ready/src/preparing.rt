@@ -4,15 +4,16 @@ ghost use Rattle.steps_ready.specs.Ready.{ArePrepared};
 use crate::counting::{count_partitions, numbered};
 use crate::division::divide;
 use crate::parting::prepare_parts;
+use crate::reads::note_reads;
 use crate::starting::{always, left_at_first, numbers, room};
 use eq_order::Use;
 use flat_model::{Clocking, FlatModel};
 use moment_order::stages;
-use moment_steps::StagedSteps;
+use moment_steps::{StagedSteps, UnclockedReads};
 use std::alloc::{AllocError, Global};
 
 /// The steps of a model before its first moment, from its uses in their order: the uses by their stages, a part for each
-/// base partition, and what is kept of names. At most `workers` threads will step base partitions. The cost is near linear
+/// base partition, what unclocked equations read, and what is kept of names. At most `workers` threads will step base partitions. The cost is near linear
 /// in the size of the model.
 ///
 /// # Errors
@@ -39,6 +40,8 @@ pub fn prepare_steps(
     let count = count_partitions(clocking.partitions.as_slice());
     let division = divide(alloc, stages.as_slice(), order, count)?;
     let parted = prepare_parts(alloc, flat, clocking, &division.parts)?;
+    let pure = note_reads(alloc, flat, division.pure.as_slice())?;
+    let waiting = note_reads(alloc, flat, division.waiting.as_slice())?;
     let always = always(alloc)?;
     let numbers = numbers(alloc, names)?;
     let cells = room(alloc, flat.names.len())?;
@@ -47,6 +50,7 @@ pub fn prepare_steps(
     Ok(StagedSteps {
         pure: division.pure,
         waiting: division.waiting,
+        reads: UnclockedReads { pure, waiting },
         always,
         numbers,
         cells,

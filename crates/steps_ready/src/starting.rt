@@ -1,5 +1,6 @@
 //! What is kept of names before the first moment.
-ghost use Rattle.std.specs.Prelude.{◌≡◌, ℕ, ◌<◌, length, map, slice_get, Some, IfOk};
+ghost use Rattle.std.specs.Prelude.{◌≡◌, ℕ, ◌<◌, length, map, slice_get, None, Some, IfOk};
+ghost use Rattle.flat_model.specs.Answers.{value_in};
 ghost use Rattle.moment_steps.specs.Settled.{AlwaysTicks};
 ghost use Rattle.steps_ready.specs.private.Starting.{start_of};
 
@@ -61,6 +62,7 @@ fn starts(alloc: Global, names: &[FlatName]) -> Result<List<Value>, AllocError>
 /// The values before the first moment: none at a moment before, and the starts as the last ones.
 pub(crate) fn left_at_first(alloc: Global, names: &[FlatName]) -> Result<Left, AllocError>
     ensures now { IfOk result (λ left. length left.now ≡ length names.now) }
+    ensures none { IfOk result (λ left. (y : ℕ) → value_in left.now y ≡ None) }
     ensures last { IfOk result (λ left. left.last ≡ map start_of names.now) }
 {
     let last = starts(alloc, names)?;

@@ -139,7 +139,7 @@ module _ (s : Setting) (uses before after : List Use) (S : Assignment) (m : ℕ)
     abbrev class : Option ℕ
     class = class_of_equation s e.equation
 
-    found_own : slice_get sight.equations e.equation ≡ Some own
+    pub found_own : slice_get sight.equations e.equation ≡ Some own
     found_own = ap (λ es. slice_get es e.equation) start.model ∙ of.found
 
     free : IsFree s entry (uses_of es ++ after)
@@ -154,7 +154,7 @@ module _ (s : Setting) (uses before after : List Use) (S : Assignment) (m : ℕ)
     ticks_told : is.clock.ticks ≡ class_ticks s A class m
     ticks_told = clock_ticks s uses before after S m base sight all cells₀ start row cells turn.at e among
 
-    ready_form : is_ready sight cells e ≡ is.clock.ticks && not (expr_lacks sight.places cells e.name of.left || expr_lacks sight.places cells e.name of.right)
+    pub ready_form : is_ready sight cells e ≡ is.clock.ticks && not (expr_lacks sight.places cells e.name of.left || expr_lacks sight.places cells e.name of.right)
     ready_form = ap (λ o. ready_in sight.places cells e.name o (slice_get sight.equations e.equation)) is.clock_found ∙ ap (ready_in sight.places cells e.name (Some is.clock)) found_own
 
     asks_left : (z : ℕ) → AsksLastIn of.left z → AsksClass s e.equation (class_of_name s z)

@@ -4,5 +4,7 @@ pub mod Plain
 pub mod Putting
 pub mod Ready
 pub mod Going
+pub mod Solved
+pub mod Unchanged
 pub mod Loop
 pub mod Taken

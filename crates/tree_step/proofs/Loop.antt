@@ -1,12 +1,17 @@
 -- The loop over entries.
-use Rattle.std.proofs.Common.{◌≡◌, refl, ap, sym, subst, ℕ, zero, suc, ◌+◌, ◌<◌, ◌≤◌, List, [], ◌∷◌, ◌++◌, length, take, drop, get_or, drop-cons, Option, None, arith}
+use Rattle.std.proofs.Common.{◌≡◌, refl, ap, sym, subst, ℕ, zero, suc, ◌+◌, ◌<◌, ◌≤◌, List, [], ◌∷◌, ◌++◌, length, take, drop, get_or, drop-cons, Option, Some, None, slice_get, arith}
+use Rattle.std.proofs.lemmas.Option.{slice_get-get_or}
 use Rattle.first_failure.specs.declared.least.EquationFailing.{EquationFailing}
 use Rattle.tree_step.specs.declared.cell.Cell.{Cell}
+use Rattle.tree_step.specs.declared.changed.Reads.{Reads}
 use Rattle.tree_step.specs.declared.taking.Entry.{Entry}
 use Rattle.tree_step.specs.declared.taking.Outcome.{Outcome}
+use Rattle.tree_step.specs.Changed.{CanStartChanged}
 use Rattle.tree_step.specs.Starts.{Sight, CanStart}
+use Rattle.tree_step.specs.private.Changed.{GivesAgain}
 use Rattle.tree_step.specs.private.Taking.{CanTake, OutcomeOf, cells_after, told_after, TakesAll}
-use Rattle.tree_step.proofs.Going.{Turn, first_turn, can_take, left_after}
+use Rattle.tree_step.proofs.Going.{Turn, Left, first_turn, can_take, left_after}
+use Rattle.tree_step.proofs.Unchanged.{gives_again}
 
 takes_more : (sight : Sight) (done : List Entry) (e : Entry) (cells mid : List Cell) (told told_mid : Option EquationFailing) (o : Outcome) → TakesAll sight done cells told mid told_mid → OutcomeOf sight mid e o
     → TakesAll sight (done ++ e ∷ []) cells told (cells_after sight.places mid e.name o) (told_after told_mid e.equation o)
@@ -29,6 +34,9 @@ take_whole [] (suc i) le = refl
 take_whole (y ∷ xs) zero le = absurd (omega (arith, le))
 take_whole (y ∷ xs) (suc i) le = ap (λ zs. y ∷ zs) (take_whole xs i (omega (arith, le)))
 
+pub plain_start : (sight : Sight) (entries : List Entry) (reads : List Reads) (cells : List Cell) → CanStartChanged sight entries reads cells → CanStart sight entries cells
+plain_start sight entries reads cells can = record { s = can.s; uses = can.uses; before = can.before; after = can.after; S = can.S; m = can.m; base = can.base; start = can.start }
+
 take_and_drop : (xs : List Entry) (i : ℕ) → take i xs ++ drop i xs ≡ xs
 take_and_drop [] zero = refl
 take_and_drop [] (suc i) = refl
@@ -50,10 +58,24 @@ module _ (sight : Sight) (entries : List Entry) (first cells : List Cell) (told 
   pub takes_whole : length entries ≤ i → TakesAll sight entries first None cells told
   takes_whole past = subst (λ es. TakesAll sight es first None cells told) (take_whole entries i past) takes
 
-  pub next_can : CanStart sight entries first → (d : Entry) → i < length entries → CanTake sight cells (get_or entries i d)
-  next_can can d within =
+  -- before the entry in this place is taken
+  pub next_left : (can : CanStart sight entries first) (d : Entry) → i < length entries
+      → Left can.s can.uses can.before can.after can.S can.m can.base sight entries first can.start (get_or entries i d ∷ drop (suc i) entries) cells
+  next_left can d within =
       let left = left_after can.s can.uses can.before can.after can.S can.m can.base sight entries first can.start (take i entries) (drop i entries) can.base first cells None told
       (subst (λ es. Turn can.s can.uses can.before can.after can.S can.m can.base sight entries first can.start es can.base first) (sym (take_and_drop entries i))
       (first_turn can.s can.uses can.before can.after can.S can.m can.base sight entries first can.start)) takes in
-      can_take can.s can.uses can.before can.after can.S can.m can.base sight entries first can.start (get_or entries i d) (drop (suc i) entries) left.row cells
-      (subst (λ es. Turn can.s can.uses can.before can.after can.S can.m can.base sight entries first can.start es left.row cells) (drop-cons entries i d within) left.turn)
+      record { row = left.row; turn = subst (λ es. Turn can.s can.uses can.before can.after can.S can.m can.base sight entries first can.start es left.row cells) (drop-cons entries i d within) left.turn }
+
+  pub next_can : CanStart sight entries first → (d : Entry) → i < length entries → CanTake sight cells (get_or entries i d)
+  next_can can d within =
+      let left = next_left can d within in
+      can_take can.s can.uses can.before can.after can.S can.m can.base sight entries first can.start (get_or entries i d) (drop (suc i) entries) left.row cells left.turn
+
+  -- and what it gives where nothing changed
+  pub next_again : (reads : List Reads) → CanStartChanged sight entries reads first → (d : Entry) → i < length entries → (own : Reads) → slice_get reads i ≡ Some own → GivesAgain sight cells (get_or entries i d) own
+  unfolding plain_start
+  next_again reads can d within own own_found v unchanged before =
+      let left = next_left (plain_start sight entries reads first can) d within in
+      gives_again can.s can.uses can.before can.after can.S can.m can.base sight entries first can.start can.unclocked can.left_is (get_or entries i d) (drop (suc i) entries) left.row cells left.turn own
+      (λ equation found. can.reads_are i (get_or entries i d) own equation (slice_get-get_or entries i d within) own_found found) unchanged v before

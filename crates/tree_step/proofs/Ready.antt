@@ -43,11 +43,11 @@ use Rattle.tree_step.specs.Takes.{IsSameCell}
 use Rattle.tree_step.specs.private.Lacking.{is_missing, may_tick, is_open_in, is_unsettled, expr_lacks}
 use Rattle.tree_step.proofs.Lacks.{ties, told}
 
-missing_is : (places : List ℕ) (cells : List Cell) (own y : ℕ) → is_missing places cells own y ≡ (not (y == own) && is_none (now_in (cell_in places cells y)))
+pub missing_is : (places : List ℕ) (cells : List Cell) (own y : ℕ) → is_missing places cells own y ≡ (not (y == own) && is_none (now_in (cell_in places cells y)))
 unfolding is_missing
 missing_is places cells own y = refl
 
-unsettled_is : (places : List ℕ) (cells : List Cell) (z : ℕ) → is_unsettled places cells z ≡ is_open_in (cell_in places cells z)
+pub unsettled_is : (places : List ℕ) (cells : List Cell) (z : ℕ) → is_unsettled places cells z ≡ is_open_in (cell_in places cells z)
 unfolding is_unsettled
 unsettled_is places cells z = refl
 
@@ -85,7 +85,7 @@ open_cases None Rests e = inl refl
 open_cases None Ticks e = absurd (true≢false e)
 open_cases None Unknown e = absurd (true≢false e)
 
-closed_rests : (o : Option Value) → is_none o && false ≡ false
+pub closed_rests : (o : Option Value) → is_none o && false ≡ false
 closed_rests (Some v) = refl
 closed_rests None = refl
 
@@ -101,10 +101,10 @@ not_true : (a : Bool) → not a ≡ true → a ≡ false
 not_true true e = absurd (false≢true e)
 not_true false e = refl
 
-both_false : (a b : Bool) → a ≡ false → b ≡ false → a || b ≡ false
+pub both_false : (a b : Bool) → a ≡ false → b ≡ false → a || b ≡ false
 both_false a b e f = ap (λ c. c || b) e ∙ f
 
-is_false : (b : Bool) → (b ≡ true → ⊥) → b ≡ false
+pub is_false : (b : Bool) → (b ≡ true → ⊥) → b ≡ false
 is_false true h = absurd (h refl)
 is_false false h = refl
 

@@ -1,4 +1,5 @@
 pub mod Cells
+pub mod Changed
 pub mod Frames
 pub mod Starts
 pub mod Takes

@@ -51,7 +51,7 @@ fn is_ready(clock: &ClockNow, equation: &Equation, sought: &Sought<'_>) -> bool
 
 /// What a use gives over the values that are there.
 #[tactic(auto, using(crate::proofs::Taken::unready_at))]
-fn take_one(scene: &Scene<'_>, cells: &[Cell], entry: Entry) -> Outcome
+pub(crate) fn take_one(scene: &Scene<'_>, cells: &[Cell], entry: Entry) -> Outcome
     requires { spec.CanTake (sight_of scene.now) cells.now entry }
     ensures { spec.OutcomeOf (sight_of scene.now) cells.now entry result }
 {
@@ -92,7 +92,7 @@ fn lesser(told: Option<EquationFailing>, other: EquationFailing) -> EquationFail
 }
 
 /// What is told once a use was taken: of the failures the one of the least equation.
-fn told_after(
+pub(crate) fn told_after(
     told: Option<EquationFailing>,
     equation: u32,
     outcome: Outcome,
@@ -107,7 +107,7 @@ fn told_after(
 }
 
 /// Puts a value that was given into the cell of its name.
-fn put(places: &[u32], cells: &mut [Cell], name: u32, outcome: Outcome)
+pub(crate) fn put(places: &[u32], cells: &mut [Cell], name: u32, outcome: Outcome)
     ensures cells { cells.new ≡ spec.cells_after places.now cells.old name outcome }
     ensures size { length cells.new ≡ length cells.old }
 {

@@ -1,5 +1,7 @@
 use Rattle.std.proofs.Common.{rules, ◌≡◌, ◌<◌, ◌^◌, ◌∙◌, ap, sym, subst, ℕ, length, map, Some, slice_get}
 use Rattle.std.specs.Prelude.{All}
+use Rattle.moment_steps.specs.declared.taking.UnclockedReads.{UnclockedReads}
+use Rattle.tree_step.specs.Changed.{AreReadsOf}
 use Rattle.steps_ready.specs.private.Division.{part_of, AreDivided}
 use Rattle.steps_ready.specs.private.Parting.{AreReady}
 use Rattle.steps_ready.specs.private.Starting.{start_of}
@@ -35,11 +37,15 @@ returns-clause-prepared c = λ s from.
     let room : length c.in_ok-cells.cells.items ≡ length model.names = search rules in
     let told_room : length c.in_ok-ticks.ticks.items ≡ length clocking.clocks = search rules in
     let few : length clocking.clocks < 2 ^ 32 = search rules in
-    let wide : length c.in_ok-left.left.now ≡ length model.names = c.in_ok-left.ensures.now ∙ ap length c.as_slice-3.ensures in
-    let starts = c.in_ok-left.ensures.last ∙ ap (λ names. map start_of names) c.as_slice-3.ensures in
+    let wide : length c.in_ok-left.left.now ≡ length model.names = c.in_ok-left.ensures.now ∙ ap length c.as_slice-5.ensures in
+    let none = c.in_ok-left.ensures.none in
+    let noted : UnclockedReads = record { pure = c.in_ok-pure.pure; waiting = c.in_ok-waiting.waiting } in
+    let pure_reads = subst (λ es. AreReadsOf model.equations es noted.pure) c.as_slice-3.ensures c.in_ok-pure.ensures in
+    let waiting_reads = subst (λ es. AreReadsOf model.equations es noted.waiting) c.as_slice-4.ensures c.in_ok-waiting.ensures in
+    let starts = c.in_ok-left.ensures.last ∙ ap (λ names. map start_of names) c.as_slice-5.ensures in
     let numbered = subst (λ n. (x : ℕ) → x < n → slice_get c.in_ok-numbers.numbers x ≡ Some x) (sym c.in_ok-numbers.ensures.size ∙ long) c.in_ok-numbers.ensures.each in
     record {
       staged = are_staged model clocking order stages count pure waiting parts places slots below divided size ready s from are;
       stand = λ A. stands model clocking order stages count pure waiting parts places slots below divided size ready s from are
-          c.in_ok-always.always c.in_ok-numbers.numbers c.in_ok-cells.cells.items c.in_ok-ticks.ticks.items c.in_ok-left.left c.in_ok-always.ensures long numbered room told_room few wide starts A;
+          noted pure_reads waiting_reads c.in_ok-always.always c.in_ok-numbers.numbers c.in_ok-cells.cells.items c.in_ok-ticks.ticks.items c.in_ok-left.left c.in_ok-always.ensures long numbered room told_room few wide none starts A;
     }

@@ -1,0 +1,7 @@
+use Rattle.std.proofs.Common.{All, take}
+use Rattle.tree_step.specs.Starts.{sight_of}
+use Rattle.tree_step.specs.private.Changed.{IsResting}
+use Rattle.tree_step.proofs.changed.are_resting.Given as goal
+
+abbrev pub invariant-loop-name : goal.invariant-loop-name
+invariant-loop-name l = All (IsResting (sight_of l.scene) l.cells) (take l.name-index l.names)
