@@ -1,9 +1,9 @@
 -- What the side that is solved for a name has of the equation: its types, what it asks for, and what stands in its samples.
-use Rattle.std.proofs.Common.{◌≡◌, refl, ap, ap₂, sym, subst, ◌∙◌, ℕ, zero, suc, ◌+◌, ◌==◌, ◌&&◌, Bool, true, false, List, [], ◌∷◌, ◌++◌, map, reverse, length, length-append, Option, Some, None, arith, eq-eqb, if◌then◌else◌}
+use Rattle.std.proofs.Common.{◌≡◌, refl, ap, ap₂, sym, subst, ◌∙◌, ℕ, suc, ◌+◌, ◌==◌, ◌&&◌, Bool, true, List, [], ◌∷◌, ◌++◌, map, reverse, length, Option, Some, None, arith, eq-eqb, if◌then◌else◌}
 use Rattle.std.specs.List.{list_all}
 use Rattle.std.proofs.lemmas.Bool.{and_parts}
-use Rattle.std.proofs.lemmas.Option.{same_Some, none-some}
-use Rattle.std.proofs.lemmas.List.{length-reverse, length-map, map-append}
+use Rattle.std.proofs.lemmas.Option.{none-some}
+use Rattle.std.proofs.lemmas.List.{length-reverse, length-map}
 use Rattle.std.proofs.lemmas.List.Folds.{list_all-append}
 use Rattle.sync_values.specs.declared.value.ChainOp.{ChainOp}
 use Rattle.sync_values.specs.declared.value.ChainOp.TheVariants.{Plus, Minus, Times, Over, And, Or}
@@ -19,7 +19,7 @@ use Rattle.flat_model.specs.Occurrences.{is_sum}
 use Rattle.flat_model.specs.Samples.{samples_are_plain, all_samples_are_plain}
 use Rattle.flat_model.specs.Typing.{Types, valued_type, is_type, typed_if, goes_with, type_of_operator, type_if_all, chain_type, type_of_level, type_of}
 use Rattle.flat_model.proofs.Standings.{may_stand-Chain, may_stand-Neg, may_stand-Not}
-use Rattle.flat_model.proofs.Typed.{both, if_some, typed_some, is_type_some, same_number}
+use Rattle.flat_model.proofs.Typed.{if_some, typed_some, is_type_some}
 use Rattle.eq_orient.specs.private.Undoing.{IsOnWay}
 use Rattle.eq_orient.proofs.Descent.{on_Neg, on_Not, split_way}
 use Rattle.undone_side.specs.Undone.{inverse, without_back, front_part, without_front, UndoesTo, own, negation, inversion, first, later}

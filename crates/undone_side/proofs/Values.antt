@@ -1,5 +1,5 @@
 -- The value of a side that is solved for a name is the solution.
-use Rattle.std.proofs.Common.{◌≡◌, refl, ap, ap₂, sym, subst, ◌∙◌, ℕ, suc, ◌+◌, Bool, true, false, not, List, [], ◌∷◌, ◌++◌, map, reverse, length, length-append, Option, ℤ, Result, Ok, Err, arith, inl, inr}
+use Rattle.std.proofs.Common.{◌≡◌, refl, ap, ap₂, sym, subst, ◌∙◌, ℕ, ◌+◌, true, not, List, [], ◌∷◌, ◌++◌, map, reverse, length, Option, ℤ, Result, Ok, Err, arith, inl, inr}
 use Rattle.std.specs.Prelude.{neg_ℤ, ◌+ℤ◌, ◌-ℤ◌}
 use Rattle.std.specs.List.{list_all}
 use Rattle.std.proofs.lemmas.Bool.{and_parts}
@@ -12,20 +12,18 @@ use Rattle.sync_values.specs.declared.value.Fail.{Fail}
 use Rattle.sync_values.specs.declared.value.ChainOp.{ChainOp}
 use Rattle.sync_values.specs.declared.value.ChainOp.TheVariants.{Plus, Minus, Times, Over, And, Or}
 use Rattle.flat_model.specs.declared.expression.Expr.{Expr}
-use Rattle.flat_model.specs.declared.expression.Expr.TheVariants.{Read, Chain, Neg, Not}
-use Rattle.flat_model.specs.declared.equation.Equation.{Equation}
+use Rattle.flat_model.specs.declared.expression.Expr.TheVariants.{Neg, Not}
 use Rattle.flat_model.specs.declared.equation.Equation.TheVariants.{Valued}
 use Rattle.flat_model.specs.Meaning.{value_of, answers}
-use Rattle.flat_model.specs.Meets.{HasOneValue}
-use Rattle.flat_model.specs.Occurrences.{bare_count, is_sum, is_reached}
+use Rattle.flat_model.specs.Occurrences.{bare_count, is_sum}
 use Rattle.flat_model.specs.Operators.{Answer, Is, Fails, Absent, settled, negated, inverted, joined, chained, chain}
 use Rattle.flat_model.specs.Views.{Views}
 use Rattle.flat_model.proofs.Values.{value_of-Chain, value_of-Neg, value_of-Not}
 use Rattle.eq_orient.specs.Solving.{Fits, with_now, AreWellMade, Solves}
-use Rattle.eq_orient.specs.private.Undoing.{AnswerFits, UndoneBy, Undoes, answers_by, IsOnWay}
-use Rattle.eq_orient.proofs.Descent.{on_Neg, on_Not, split_way, joined_strict}
+use Rattle.eq_orient.specs.private.Undoing.{UndoneBy, Undoes, answers_by, IsOnWay}
+use Rattle.eq_orient.proofs.Descent.{on_Neg, on_Not, split_way}
 use Rattle.eq_orient.proofs.Down.{at_name, down, is_Neg, is_Not}
-use Rattle.eq_orient.proofs.Sides.{IsSided, left_sided, right_sided}
+use Rattle.eq_orient.proofs.Sides.{left_sided, right_sided}
 use Rattle.eq_orient.proofs.Undoing.{neg_Ok, not_Ok, plus_right, minus_right, plus_left, minus_left, undone_both, joined_fits}
 use Rattle.eq_orient.proofs.Unread.{unread}
 use Rattle.undone_side.specs.Undone.{inverse, without_back, front_part, without_front, UndoesTo, own, negation, inversion, first, later, IsSolvedSide, IsFitting}

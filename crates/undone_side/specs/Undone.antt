@@ -30,10 +30,13 @@ abbrev pub front_part : List Expr → List ChainOp → Expr
 front_part (part ∷ []) ops = part
 front_part parts ops = Chain parts ops
 
+abbrev pub difference : Expr → Expr → Expr
+difference left right = Chain (left ∷ (right ∷ [])) (Minus ∷ [])
+
 -- what is left of a sum without its first parts, behind which this operator stands
 abbrev pub without_front : ChainOp → Expr → Expr → Expr
-without_front Minus front whole = Chain (front ∷ (whole ∷ [])) (Minus ∷ [])
-without_front op front whole = Chain (whole ∷ (front ∷ [])) (Minus ∷ [])
+without_front Minus front whole = difference front whole
+without_front op front whole = difference whole front
 
 -- where an expression is equal to `whole`, the name x in it is equal to `side`
 pub data UndoesTo (x : ℕ) : Expr → Expr → Expr → Type 0 where
