@@ -1,5 +1,5 @@
 -- What the side that is solved for a name has of the equation: its types, what it asks for, and what stands in its samples.
-use Rattle.std.proofs.Common.{◌≡◌, refl, ap, ap₂, sym, subst, ◌∙◌, ℕ, suc, ◌+◌, ◌==◌, ◌&&◌, Bool, true, List, [], ◌∷◌, ◌++◌, map, reverse, length, Option, Some, None, arith, eq-eqb, if◌then◌else◌}
+use Rattle.std.proofs.Common.{◌≡◌, refl, ap, ap₂, sym, subst, ◌∙◌, ℕ, zero, suc, ◌+◌, ◌==◌, ◌&&◌, Bool, true, List, [], ◌∷◌, ◌++◌, map, reverse, length, Option, Some, None, arith, eq-eqb, if◌then◌else◌, ◌⊎◌, inl, inr}
 use Rattle.std.specs.List.{list_all}
 use Rattle.std.proofs.lemmas.Bool.{and_parts}
 use Rattle.std.proofs.lemmas.Option.{none-some}
@@ -14,15 +14,19 @@ use Rattle.flat_model.specs.declared.expression.Expr.{Expr}
 use Rattle.flat_model.specs.declared.expression.Expr.TheVariants.{Read, Chain, Neg, Not, rolls-Read, rolls-Chain, rolls-Neg, rolls-Not}
 use Rattle.flat_model.specs.declared.model.NameKind.{NameKind}
 use Rattle.flat_model.specs.declared.model.NameKind.TheVariants as kind
-use Rattle.flat_model.specs.Asks.{Asking, Asked, is_now, here, all_asked, asked_in_level, asked}
-use Rattle.flat_model.specs.Occurrences.{is_sum}
+use Rattle.flat_model.specs.declared.equation.Equation.TheVariants.{Valued}
+use Rattle.flat_model.specs.Asks.{Asking, OfNow, AsksFor, Asked, is_now, here, all_asked, asked_in_level, asked}
+use Rattle.flat_model.specs.Occurrences.{one_if, is_sum}
 use Rattle.flat_model.specs.Samples.{samples_are_plain, all_samples_are_plain}
 use Rattle.flat_model.specs.Typing.{Types, valued_type, is_type, typed_if, goes_with, type_of_operator, type_if_all, chain_type, type_of_level, type_of}
+use Rattle.flat_model.proofs.Links.{asked_bare}
 use Rattle.flat_model.proofs.Standings.{may_stand-Chain, may_stand-Neg, may_stand-Not}
 use Rattle.flat_model.proofs.Typed.{if_some, typed_some, is_type_some}
 use Rattle.eq_orient.specs.private.Undoing.{IsOnWay}
 use Rattle.eq_orient.proofs.Descent.{on_Neg, on_Not, split_way}
-use Rattle.undone_side.specs.Undone.{inverse, without_back, front_part, without_front, UndoesTo, own, negation, inversion, first, later}
+use Rattle.eq_orient.specs.Solving.{AreWellMade}
+use Rattle.eq_orient.proofs.Sides.{IsSided, left_sided, right_sided}
+use Rattle.undone_side.specs.Undone.{inverse, without_back, front_part, without_front, UndoesTo, own, negation, inversion, first, later, IsSolvedSide, IsSideKnown}
 use Rattle.undone_side.proofs.Values.{reverse_cons}
 
 -- ---- what is asked for
@@ -291,3 +295,50 @@ module _ (types : Types) where
       let last = and_parts (is_sum op) (list_all is_sum behind) sums.1 in
       side_type x part (without_front op (front_part front ahead) (without_back whole behind back)) side rest split.way kind.Integer (is_type_some kind.Integer (type_of types part) parts.0)
       (type_joined op (front_part front ahead) (without_back whole behind back) (type_front front ahead sums.0 long pieces.0) (type_back whole behind back last.1 as_long (right ∙ ap Some (sym of.type_is)) parts.1))
+
+-- ---- both sides of an equation
+
+one_here : (x : ℕ) → here (is_now x) 0 (OfNow x) ≡ 1
+one_here x = ap one_if (eq-eqb x x refl)
+
+-- the side asks for what one side of the equation does
+asks_either : (x : ℕ) (mine rest side : Expr) → UndoesTo x mine rest side → (d : ℕ) (q : Asking) → AsksFor side d q → AsksFor mine d q ⊎ AsksFor rest d q
+asks_either x mine rest side undoes d q some = by_count (asked mine d q) refl
+  where
+    by_count : (n : ℕ) → asked mine d q ≡ n → AsksFor mine d q ⊎ AsksFor rest d q
+    by_count zero is = let total = side_asks d q x mine rest side undoes in inr (omega (arith, some, is, total))
+    by_count (suc n) is = inl (omega (arith, is))
+
+known_side : (types : Types) (x : ℕ) (mine rest side : Expr) → UndoesTo x mine rest side → IsSided x mine rest → (type : NameKind) → type_of types mine ≡ Some type → type_of types rest ≡ Some type → IsSideKnown types x mine rest side
+known_side types x mine rest side undoes sided type one two =
+    let typed = side_type types x mine rest side undoes sided.way type one two in
+    record {
+      type = typed.0;
+      side_type = typed.1;
+      name_type = typed.2;
+      plain = side_plain x mine rest side undoes sided.way sided.plain;
+      asks = asks_either x mine rest side undoes;
+      other =
+          let total = side_asks 0 (OfNow x) x mine rest side undoes in
+          let bare = asked_bare x mine in
+          let bare_rest = asked_bare x rest in
+          let once = sided.way.once in
+          let none = sided.none in
+          let own_one = one_here x in
+          omega (arith, total, bare, bare_rest, once, none, own_one);
+    }
+
+swap : {P Q : Type 0} → P ⊎ Q → Q ⊎ P
+swap (inl p) = inr p
+swap (inr q) = inl q
+
+pub side_known : (types : Types) (x : ℕ) (left right : Expr) (clause : Option ℕ) (side : Expr) → IsSolvedSide x (Valued left right clause) side → AreWellMade (Valued left right clause)
+    → (type : NameKind) → type_of types left ≡ Some type → type_of types right ≡ Some type → IsSideKnown types x left right side
+side_known types x left right clause side (inl (spine, undoes)) made type one two = known_side types x left right side undoes (left_sided x left right clause spine made) type one two
+side_known types x left right clause side (inr (spine, undoes)) made type one two =
+    let known = known_side types x right left side undoes (right_sided x left right clause spine made) type two one in
+    record { type = known.type; side_type = known.side_type; name_type = known.name_type; plain = known.plain; asks = λ d q some. swap (known.asks d q some); other = known.other }
+
+pub solved_asks : (x : ℕ) (left right : Expr) (clause : Option ℕ) (side : Expr) → IsSolvedSide x (Valued left right clause) side → (d : ℕ) (q : Asking) → AsksFor side d q → AsksFor left d q ⊎ AsksFor right d q
+solved_asks x left right clause side (inl (spine, undoes)) d q some = asks_either x left right side undoes d q some
+solved_asks x left right clause side (inr (spine, undoes)) d q some = swap (asks_either x right left side undoes d q some)

@@ -1,5 +1,5 @@
 -- What a name is by an equation in which it stands in sums, behind `-` or `not`: the operators on the way to it, undone.
-use Rattle.std.specs.Prelude.{◌≡◌, ℕ, ◌+◌, ◌⊎◌, true, false, List, [], ◌∷◌, ◌++◌, length, map, reverse, Option, Ok}
+use Rattle.std.specs.Prelude.{◌≡◌, ℕ, ◌+◌, ◌⊎◌, true, false, List, [], ◌∷◌, ◌++◌, length, map, reverse, Option, Some, Ok}
 use Rattle.sync_values.specs.declared.value.Value.{Value}
 use Rattle.sync_values.specs.declared.value.ChainOp.{ChainOp}
 use Rattle.sync_values.specs.declared.value.ChainOp.TheVariants.{Plus, Minus}
@@ -7,9 +7,13 @@ use Rattle.flat_model.specs.declared.expression.Expr.{Expr}
 use Rattle.flat_model.specs.declared.expression.Expr.TheVariants.{Read, Chain, Neg, Not}
 use Rattle.flat_model.specs.declared.equation.Equation.{Equation}
 use Rattle.flat_model.specs.declared.equation.Equation.TheVariants.{Valued, Clocks}
+use Rattle.flat_model.specs.declared.model.NameKind.{NameKind}
+use Rattle.flat_model.specs.Asks.{Asking, OfNow, asked, AsksFor}
 use Rattle.flat_model.specs.Meaning.{value_of}
 use Rattle.flat_model.specs.Occurrences.{bare_count, is_reached}
 use Rattle.flat_model.specs.Operators.{Is}
+use Rattle.flat_model.specs.Samples.{samples_are_plain}
+use Rattle.flat_model.specs.Typing.{Types, valued_type, type_of}
 use Rattle.flat_model.specs.Views.{Views}
 use Rattle.eq_orient.specs.Solving.{Fits, AreWellMade, Solves}
 use Rattle.eq_orient.specs.Spine.{IsSpineOf}
@@ -63,3 +67,17 @@ IsFitting views e = (v : Value) → value_of e views ≡ Is v → Fits v
 abbrev pub UndoneLaw : Type 0
 UndoneLaw = (x : ℕ) (left right : Expr) (clause : Option ℕ) (side : Expr) → IsSolvedSide x (Valued left right clause) side → AreWellMade (Valued left right clause)
     → (views : Views) → (bare_count x left ≡ 0 → IsFitting views left) → (bare_count x right ≡ 0 → IsFitting views right) → (v : Value) → value_of side views ≡ Is v → Solves x (Valued left right clause) views (Ok v)
+
+-- what the side that is solved for a name has of the equation: its type is the name's, what stands in its samples may do so, and it asks for what the equation asks for, but not for the name
+pub record IsSideKnown (types : Types) (x : ℕ) (left right side : Expr) : Type 0 where
+  pub type : NameKind
+  pub side_type : type_of types side ≡ Some type
+  pub name_type : valued_type (types x) ≡ Some type
+  pub plain : samples_are_plain side ≡ true
+  pub asks : (d : ℕ) (q : Asking) → AsksFor side d q → AsksFor left d q ⊎ AsksFor right d q
+  pub other : asked side 0 (OfNow x) ≡ 0
+
+-- the law of such a side
+abbrev pub KnownLaw : Type 0
+KnownLaw = (types : Types) (x : ℕ) (left right : Expr) (clause : Option ℕ) (side : Expr) → IsSolvedSide x (Valued left right clause) side → AreWellMade (Valued left right clause)
+    → (type : NameKind) → type_of types left ≡ Some type → type_of types right ≡ Some type → IsSideKnown types x left right side

@@ -6,5 +6,5 @@ mod law;
 mod sums;
 mod undoing;
 
-pub use law::undone_law;
+pub use law::{known_law, undone_law};
 pub use undoing::{bare_side, solved_side};
