@@ -1,5 +1,5 @@
 -- What a name is by an equation in which it stands in sums, behind `-` or `not`: the operators on the way to it, undone.
-use Rattle.std.specs.Prelude.{◌≡◌, ℕ, ◌+◌, ◌⊎◌, true, false, List, [], ◌∷◌, ◌++◌, length, map, reverse, Option, Some, Ok}
+use Rattle.std.specs.Prelude.{◌≡◌, ℕ, ◌+◌, ◌⊎◌, Bool, true, false, List, [], ◌∷◌, ◌++◌, length, map, reverse, Option, Some, Ok}
 use Rattle.sync_values.specs.declared.value.Value.{Value}
 use Rattle.sync_values.specs.declared.value.ChainOp.{ChainOp}
 use Rattle.sync_values.specs.declared.value.ChainOp.TheVariants.{Plus, Minus}
@@ -58,6 +58,10 @@ abbrev pub IsSolvedSide : ℕ → Equation → Expr → Type 0
 IsSolvedSide x (Valued left right clause) side =
     (IsSpineOf x (Valued left right clause) true × UndoesTo x left right side) ⊎ (IsSpineOf x (Valued left right clause) false × UndoesTo x right left side)
 IsSolvedSide x (Clocks left right clause) side = ⊥
+
+-- an equation cannot be solved for a name, or is not well made
+abbrev pub IsUnsolved : ℕ → Equation → Type 0
+IsUnsolved x equation = AreWellMade equation → (left : Bool) → IsSpineOf x equation left → ⊥
 
 -- the value of an expression, where it has one, has 64 bits
 abbrev pub IsFitting : Views → Expr → Type 0

@@ -1,7 +1,8 @@
 //! The side of an equation that is solved for a name.
-ghost use Rattle.std.specs.Prelude.{◌≡◌, true, IfOk, IfSome};
+ghost use Rattle.std.specs.Prelude.{◌≡◌, true, IfOk, IfSome, MatchOption};
+ghost use Rattle.eq_orient.specs.Solving.{is_formed};
 ghost use Rattle.flat_model.specs.Occurrences as spec;
-ghost use Rattle.undone_side.specs.Undone.{UndoesTo, IsSolvedSide};
+ghost use Rattle.undone_side.specs.Undone.{UndoesTo, IsSolvedSide, IsUnsolved};
 
 use crate::sums::without_others;
 use eq_orient::{around, spine};
@@ -14,7 +15,7 @@ use std::alloc::{AllocError, Global};
 #[tactic(auto, using(eq_orient::proofs::Reached::reachings))]
 fn undone(alloc: Global, expr: &Expr, name: u32, whole: Expr) -> Result<Option<Expr>, AllocError>
     requires { spec.is_reached name expr.now ≡ true }
-    ensures { IfOk result (λ side. IfSome side (UndoesTo name expr.now whole)) }
+    ensures { IfOk result (λ side. MatchOption side (is_formed expr.now ≡ true → ⊥) (UndoesTo name expr.now whole)) }
 {
     match expr {
         Expr::Read(_) => Ok(Some(whole)),
@@ -77,8 +78,8 @@ pub fn bare_side<'a>(equation: &'a Equation, name: u32) -> Option<&'a Expr>
 }
 
 /// The side of an equation that is solved for a name, made of its other side and of the parts beside the way to the name.
-/// There is none where the equation cannot be solved for the name, or a sum in it has not one operator fewer than parts. Its
-/// cost is that of a copy of the equation.
+/// There is none only where the equation cannot be solved for the name, or a sum in it has not one operator fewer than parts.
+/// Its cost is that of a copy of the equation.
 ///
 /// # Errors
 ///
@@ -90,7 +91,7 @@ pub fn solved_side(
     equation: &Equation,
     name: u32,
 ) -> Result<Option<Expr>, AllocError>
-    ensures { IfOk result (λ side. IfSome side (IsSolvedSide name equation.now)) }
+    ensures { IfOk result (λ side. MatchOption side (IsUnsolved name equation.now) (IsSolvedSide name equation.now)) }
 {
     let Equation::Valued { left, right, .. } = equation else {
         return Ok(None);
