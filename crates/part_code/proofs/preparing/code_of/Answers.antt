@@ -1,4 +1,4 @@
-use Rattle.std.proofs.Common.{rules, ◌≡◌, ap, subst, ◌∙◌, sym, [], length, vec_len, All, arith, ◌≤◌}
+use Rattle.std.proofs.Common.{rules, ◌≡◌, ap, subst, ◌∙◌, sym, [], length, vec_len, All, arith}
 use Rattle.cell_keys.specs.Cells.{with_keys}
 use Rattle.part_layout.specs.Reads.{keys_of_lines}
 use Rattle.part_stretches.specs.Running.{IsRunWithin}

@@ -1,4 +1,4 @@
-use Rattle.std.proofs.Common.{rules, ◌≡◌, Some, slice_get}
+use Rattle.std.proofs.Common.{◌≡◌, Some, slice_get}
 use Rattle.part_code.proofs.Solved.{side_made}
 use Rattle.part_code.proofs.sides.made_side.Goals as goal
 
