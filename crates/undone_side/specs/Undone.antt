@@ -34,6 +34,7 @@ abbrev pub front_part : List Expr → List ChainOp → Expr
 front_part (part ∷ []) ops = part
 front_part parts ops = Chain parts ops
 
+-- one expression less another
 abbrev pub difference : Expr → Expr → Expr
 difference left right = Chain (left ∷ (right ∷ [])) (Minus ∷ [])
 
