@@ -1,40 +1,37 @@
 -- What the code of a base partition begins with.
-use Rattle.std.proofs.Common.{◌≡◌, refl, ap, sym, subst, ◌∙◌, ℕ, zero, suc, ◌<◌, Bool, true, false, List, [], ◌∷◌, ◌++◌, Contains, Option, Some, None, IsSome, inl, inr, slice_get}
+use Rattle.std.proofs.Common.{◌≡◌, ap, sym, subst, ◌∙◌, ℕ, zero, suc, ◌<◌, List, [], ◌∷◌, ◌++◌, Contains, Some, inl, inr, slice_get}
 use Rattle.std.proofs.lemmas.Option.{none-some, same_Some}
 use Rattle.flat_model.specs.declared.equation.Equation.{Equation}
 use Rattle.flat_model.specs.declared.equation.Equation.TheVariants.{Valued, Clocks}
 use Rattle.flat_model.specs.declared.expression.Expr.{Expr}
-use Rattle.flat_model.specs.declared.expression.Expr.TheVariants.{Read}
 use Rattle.flat_model.specs.Answers.{value_in}
-use Rattle.flat_model.specs.Asks.{AsksFor, OfNow, OfLast, OfPrevious, asked}
+use Rattle.flat_model.specs.Asks.{Asking, AsksFor, OfNow, OfLast, OfPrevious, asked}
 use Rattle.flat_model.specs.Assignment.{Assignment, previous_value}
-use Rattle.flat_model.specs.Given.{Row, with_row}
-use Rattle.flat_model.specs.Setting.{Setting, class_of_name, class_of_equation, partition_of, class_ticks, start_of, name_ticks}
+use Rattle.flat_model.specs.Given.{Row}
+use Rattle.flat_model.specs.Setting.{Setting, class_of_name, partition_of, start_of, name_ticks}
 use Rattle.flat_model.specs.Uses.{Use}
 use Rattle.moment_theory.specs.Free.{IsReachedBy, IsOrdered}
 use Rattle.moment_theory.proofs.Facts.{class_of_use, facts_of_use}
 use Rattle.moment_theory.proofs.FromRunnable.{facts_of}
 use Rattle.moment_theory.proofs.Members.{IsMember, contains_member, member_contains, member_reached, reached_member}
-use Rattle.cell_keys.specs.declared.key.CellKey.{CellKey}
 use Rattle.cell_keys.specs.declared.key.CellKey.TheVariants as key
 use Rattle.cell_keys.specs.declared.sight.Sight.TheVariants.{Now}
 use Rattle.cell_keys.specs.Cells.{cell_of}
-use Rattle.part_layout.specs.Reads.{keys_read}
-use Rattle.side_theory.specs.Sides.{sided}
-use Rattle.side_theory.proofs.Counting.{free_behind}
 use Rattle.part_stretches.specs.Parts.{AllBegin}
 use Rattle.whole_runs.proofs.Taking.{reached_before, reached_once}
 use Rattle.tree_step.specs.declared.cell.Cell.{Cell}
 use Rattle.tree_step.specs.declared.frame.ClockNow.{ClockNow}
 use Rattle.tree_step.specs.declared.taking.Entry.{Entry}
 use Rattle.tree_step.specs.Cells.{cell_in}
-use Rattle.tree_step.specs.Starts.{Sight, use_of, uses_of, IsAmong, HasCell, KeepsLast, IsSideSeen, AreSidesSeen, IsEntry}
+use Rattle.tree_step.specs.Starts.{Sight, use_of, uses_of, IsAmong, KeepsLast, IsSideSeen, AreSidesSeen, IsEntry}
 use Rattle.part_words.specs.Setting.{IsKeptFor, AreKeysTold}
 use Rattle.part_code.specs.declared.coded.Coded.{Coded}
-use Rattle.part_code.specs.Coded.{IsSideOf, Has, IsAskedBy, IsCodeOf}
+use Rattle.part_code.specs.Coded.{IsSideOf, IsCodeOf}
+use Rattle.undone_side.specs.Undone.{IsSolvedSide}
+use Rattle.undone_side.proofs.Kept.{solved_asks}
 use Rattle.coded_step.specs.Taking.{IsCodeStart}
 use Rattle.coded_step.proofs.Asks.{keys_asked}
-use Rattle.coded_step.proofs.There.{there, own_there}
+use Rattle.coded_step.proofs.There.{there}
 
 member_at : (some rest : List Use) (entry : Use) → IsMember entry some → IsMember entry (some ++ rest)
 member_at [] rest entry h = absurd h
@@ -61,10 +58,19 @@ among_member [] e among = absurd among
 among_member (first ∷ rest) e (inl is) = inl (ap use_of is)
 among_member (first ∷ rest) e (inr among) = inr (among_member rest e among)
 
--- what is seen of the side of an entry
-side_seen : (s : Setting) (S : Assignment) (m : ℕ) (base : Row) (sight : Sight) (cells : List Cell) (clock : ClockNow) (b : Bool) (x : ℕ) (side : Expr) (clause : Option ℕ) → AreSidesSeen s S m base sight cells clock (sided b x side clause) → IsSideSeen s S m base sight cells clock side
-side_seen s S m base sight cells clock true x side clause seen = seen.1
-side_seen s S m base sight cells clock false x side clause seen = seen.0
+-- a side of an equation that asks for this, with what is seen of it
+pub record IsSeenAsking (s : Setting) (S : Assignment) (m : ℕ) (base : Row) (sight : Sight) (cells : List Cell) (clock : ClockNow) (d : ℕ) (q : Asking) : Type 0 where
+  pub side : Expr
+  pub seen : IsSideSeen s S m base sight cells clock side
+  pub asks : AsksFor side d q
+
+seen_asking : (s : Setting) (S : Assignment) (m : ℕ) (base : Row) (sight : Sight) (cells : List Cell) (clock : ClockNow) (x : ℕ) (equation : Equation) (side : Expr) → IsSolvedSide x equation side → AreSidesSeen s S m base sight cells clock equation
+    → (d : ℕ) (q : Asking) → AsksFor side d q → IsSeenAsking s S m base sight cells clock d q
+seen_asking s S m base sight cells clock x (Valued left right clause) side solves seen d q some = elim (solved_asks x left right clause side solves d q some) [
+  | inl asks ↦ record { side = left; seen = seen.0; asks = asks }
+  | inr asks ↦ record { side = right; seen = seen.1; asks = asks }
+]
+seen_asking s S m base sight cells clock x (Clocks left right clause) side solves seen d q some = absurd solves
 
 no_value : (x y : ℕ) → key.Previous x ≡ key.Value y → ⊥
 no_value x y e = cc
@@ -115,20 +121,20 @@ module _ (s : Setting) (uses before after : List Use) (partition : ℕ) (S : Ass
   own_kept e among = let (cell, found) = (is_entry e among).own in kept_for e.name cell found
 
   module _ (e : Entry) (among : IsAmong e entries) (side : Expr) (of : IsSideOf sight.equations e side) where
-    seen : IsSideSeen s S m base sight cells (is_entry e among).clock side
-    seen =
+    asking : (d : ℕ) (q : Asking) → AsksFor side d q → IsSeenAsking s S m base sight cells (is_entry e among).clock d q
+    asking =
         let is = is_entry e among in
-        let same : is.equation ≡ sided of.first e.name side of.clause = same_Some is.equation (sided of.first e.name side of.clause) (sym is.found ∙ ap (λ es. slice_get es e.equation) (sym start.start.model) ∙ of.found) in
-        side_seen s S m base sight cells is.clock of.first e.name side of.clause (subst (AreSidesSeen s S m base sight cells is.clock) same is.seen)
+        let same : is.equation ≡ of.equation = same_Some is.equation of.equation (sym is.found ∙ ap (λ es. slice_get es e.equation) (sym start.start.model) ∙ of.found) in
+        seen_asking s S m base sight cells is.clock e.name of.equation side of.solved (subst (AreSidesSeen s S m base sight cells is.clock) same is.seen)
 
     now_kept : (x : ℕ) → 0 < asked side 0 (OfNow x) → IsKeptFor s S m base sight cells x
-    now_kept x asks = let (cell, found) = seen.now x asks in kept_for x cell found
+    now_kept x asks = let at = asking 0 (OfNow x) asks in let (cell, found) = at.seen.now x at.asks in kept_for x cell found
 
     last_kept : (x : ℕ) → 0 < asked side 0 (OfLast x) → IsKeptFor s S m base sight cells x
-    last_kept x asks = let (cell, found, keeps, stands) = seen.last x asks in kept_for x cell found
+    last_kept x asks = let at = asking 0 (OfLast x) asks in let (cell, found, keeps, stands) = at.seen.last x at.asks in kept_for x cell found
 
     previous_kept : (x : ℕ) → 0 < asked side 0 (OfPrevious x) → IsKeptFor s S m base sight cells x
-    previous_kept x asks = let (cell, found, more) = seen.previous x asks in kept_for x cell found
+    previous_kept x asks = let at = asking 0 (OfPrevious x) asks in let (cell, found, more) = at.seen.previous x at.asks in kept_for x cell found
 
   module _ (code : Coded) (is : IsCodeOf sight.equations s.model.names entries code) where
     value_kept : (x c : ℕ) → cell_of code.keys (key.Value x) ≡ Some c → IsKeptFor s S m base sight cells x

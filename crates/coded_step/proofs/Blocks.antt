@@ -1,7 +1,8 @@
 -- The stretches of the code as blocks of uses.
-use Rattle.std.proofs.Common.{◌≡◌, refl, ap, sym, subst, ◌∙◌, ℕ, zero, suc, Bool, true, ℤ, List, [], ◌∷◌, ◌++◌, map, length, Contains, Option, Some, None, unwrap_or, inl, inr, slice_get}
-use Rattle.std.proofs.lemmas.Option.{none-some, same_Some}
+use Rattle.std.proofs.Common.{◌≡◌, refl, ap, sym, subst, ◌∙◌, ℕ, zero, suc, true, ℤ, List, [], ◌∷◌, ◌++◌, length, Contains, Option, Some, None, unwrap_or, inl, inr, slice_get}
+use Rattle.std.proofs.lemmas.Option.{none-some}
 use Rattle.sync_values.specs.declared.value.Value.{Value}
+use Rattle.flat_model.specs.declared.expression.Expr.{Expr}
 use Rattle.flat_model.specs.Assignment.{Assignment}
 use Rattle.flat_model.specs.Given.{Row, with_row}
 use Rattle.flat_model.specs.Setting.{Setting, class_of_equation, partition_of, class_ticks}
@@ -11,25 +12,25 @@ use Rattle.cell_keys.specs.declared.key.CellKey.{CellKey}
 use Rattle.step_code.specs.Code.{Cells}
 use Rattle.step_code.specs.Lines.{Line}
 use Rattle.part_layout.specs.Keyed.{keyed_cells}
-use Rattle.part_layout.specs.LayoutLaws.{AreLaid, IsTable}
+use Rattle.part_layout.specs.LayoutLaws.{AreTypedLines, IsTable}
 use Rattle.part_layout.proofs.Tables.{is_table}
 use Rattle.side_theory.specs.Kept.{IsClockSet}
-use Rattle.side_theory.specs.Stretches.{AreLinesOf}
 use Rattle.part_stretches.specs.declared.running.ClassStretch.{ClassStretch}
 use Rattle.part_stretches.specs.Parts.{Block, entries_of, AreAlike}
 use Rattle.part_stretches.specs.Running.{tick_in}
-use Rattle.whole_runs.specs.Whole.{IsCoded, AreCoded, AreToldBy}
+use Rattle.whole_runs.specs.Lines.{AreTelling}
+use Rattle.whole_runs.specs.Whole.{AreCoded, AreToldBy}
 use Rattle.tree_step.specs.declared.cell.Cell.{Cell}
-use Rattle.tree_step.specs.declared.frame.ClockNow.{ClockNow}
 use Rattle.tree_step.specs.declared.taking.Entry.{Entry}
 use Rattle.tree_step.specs.Starts.{Sight, use_of, uses_of, IsAmong, IsClockTold}
 use Rattle.part_words.specs.Words.{AreFilled}
 use Rattle.part_words.proofs.Setting.{words_set}
 use Rattle.part_code.specs.declared.coded.Coded.{Coded}
-use Rattle.part_code.specs.Coded.{IsSideOf, AreLinesFor, IsStretchOf, AreStretchesOf, IsCodeOf}
+use Rattle.part_code.specs.Coded.{IsSideOf, AreLinesFor, AreStretchesOf, IsCodeOf}
 use Rattle.coded_step.specs.Landing.{ticking_of}
 use Rattle.coded_step.specs.Taking.{IsCodeStart}
 use Rattle.coded_step.proofs.Beginning.{ordered, is_entry, among_member, keys_told}
+use Rattle.coded_step.proofs.Telling.{tells, typed_line}
 use Rattle.coded_step.proofs.Ticks.{tick_found}
 
 keyed_alike : (keys : List CellKey) (s : Setting) (a b : ℕ) → AreAlike (keyed_cells keys s.model.names a) (keyed_cells keys s.model.names b)
@@ -87,7 +88,7 @@ module _ (s : Setting) (uses before after : List Use) (partition : ℕ) (S : Ass
   class_is e among = class_some s (class_of_equation s e.equation) partition (start.of e among)
 
   table : (place : ℕ) → IsTable s code.keys place (at place)
-  table place = is_table s (ordered s uses before after partition S m base sight entries cells start).runs code.keys place
+  table place = is_table s code.keys place
 
   used : (e : Entry) → IsAmong e entries → Contains uses (use_of e)
   used e among =
@@ -103,24 +104,30 @@ module _ (s : Setting) (uses before after : List Use) (partition : ℕ) (S : Ass
       member_front (first ∷ some) (inl same) = inl same
       member_front (first ∷ some) (inr h) = inr (member_front some h)
 
-  -- lines of entries of one clock are those of uses of one class
-  lines_of : (first : Entry) → IsAmong first entries → (place : ℕ) → first.clock ≡ place → (es : List Entry) (ls : List Line) → ((e : Entry) → IsAmong e es → IsAmong e entries) → AreLinesFor sight.equations place es ls → AreLinesOf s uses (class_of first) (uses_of es) ls
-  lines_of first first_among place first_place [] [] within are = tt
+  -- the equation of an entry is one of the model
+  model_found : (e : Entry) (side : Expr) (of : IsSideOf sight.equations e side) → slice_get s.model.equations e.equation ≡ Some of.equation
+  model_found e side of = ap (λ qs. slice_get qs e.equation) (sym start.start.model) ∙ of.found
+
+  -- lines of entries of one clock tell of uses of one class
+  lines_of : (first : Entry) → IsAmong first entries → (place : ℕ) → first.clock ≡ place → (es : List Entry) (ls : List Line) → ((e : Entry) → IsAmong e es → IsAmong e entries) → AreLinesFor sight.equations place es ls
+      → AreTelling s uses (class_of first) (uses_of es) ls × AreTypedLines s ls
+  lines_of first first_among place first_place [] [] within are = (tt, tt)
   lines_of first first_among place first_place [] (l ∷ ls) within are = absurd are
   lines_of first first_among place first_place (e ∷ es) [] within are = absurd are
   lines_of first first_among place first_place (e ∷ es) (l ∷ ls) within ((of, name, clock), rest) =
-      let among = within e (inl refl) in (
+      let among = within e (inl refl) in
+      let order = ordered s uses before after partition S m base sight entries cells start in
+      let found = model_found e l.side of in
+      let others = lines_of first first_among place first_place es ls (λ d h. within d (inr h)) rest in (
         (
-          used e among,
-          name,
-          record {
-            clause = of.clause;
-            first = of.first;
-            found = ap (λ qs. slice_get qs e.equation) (sym start.start.model) ∙ of.found;
-            class_is = start.one_class e first among first_among (clock ∙ sym first_place) ∙ class_is first first_among;
-          },
+          (
+            used e among,
+            name,
+            tells s uses order.runs order.uses_are.uses_are (use_of e) (used e among) (class_of first) (start.one_class e first among first_among (clock ∙ sym first_place) ∙ class_is first first_among) of.equation l.side found of.solved,
+          ),
+          others.0,
         ),
-        lines_of first first_among place first_place es ls (λ d h. within d (inr h)) rest,
+        (typed_line s uses order.runs order.uses_are.uses_are (use_of e) (used e among) of.equation l found of.solved name, others.1),
       )
 
   -- the blocks of stretches
@@ -147,10 +154,10 @@ module _ (s : Setting) (uses before after : List Use) (partition : ℕ) (S : Ass
         record {
           partition = ap (partition_of s) (sym (class_is first among)) ∙ start.of first among;
           stretch = of.stretch;
-          lines = lines;
+          lines = lines.0;
           alike = keyed_alike code.keys s 0 one.class;
           apart = tab.apart;
-          celled = tab.celled uses (uses_of (first ∷ front)) (class_of first) of.lines lines of.laid;
+          celled = tab.celled of.lines lines.1 of.laid;
           booleans = tab.booleans;
           laid = tab.laid;
         },

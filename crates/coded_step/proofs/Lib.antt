@@ -5,3 +5,4 @@ mod Lists
 mod Taken
 mod There
 mod Ticks
+pub mod Telling

@@ -1,18 +1,14 @@
 -- What the code did takes the uses.
-use Rattle.std.proofs.Common.{◌≡◌, ◌≢◌, refl, ap, sym, subst, ◌∙◌, ℕ, zero, suc, ◌<◌, not, ◌==◌, if◌then◌else◌, Bool, true, false, ℤ, pos, List, [], ◌∷◌, ◌++◌, length, Contains, Option, Some, None, inl, inr, slice_get}
+use Rattle.std.proofs.Common.{◌≡◌, refl, ap, sym, subst, ◌∙◌, ℕ, zero, suc, ◌==◌, if◌then◌else◌, Bool, true, false, ℤ, pos, List, [], ◌∷◌, ◌++◌, length, Contains, Option, Some, None, inl, inr, slice_get}
 use Rattle.std.specs.Prelude.{option_map}
-use Rattle.std.specs.Ordering.{int_eq}
-use Rattle.std.proofs.lemmas.Bool.{false≢true}
 use Rattle.std.proofs.lemmas.Option.{none-some, same_Some}
 use Rattle.sync_values.specs.Relation.{rank}
 use Rattle.sync_values.specs.declared.value.Value.{Value}
 use Rattle.sync_values.specs.declared.value.Value.TheVariants as value
-use Rattle.sync_values.specs.declared.value.Fail.{Fail}
 use Rattle.flat_model.specs.declared.model.FlatName.{FlatName}
 use Rattle.flat_model.specs.declared.model.NameKind.{NameKind}
 use Rattle.flat_model.specs.declared.model.NameKind.TheVariants as kind
 use Rattle.flat_model.specs.Assignment.{Assignment, IsOfKind}
-use Rattle.flat_model.specs.Faults.{EquationFails}
 use Rattle.flat_model.specs.Given.{Row, with_row}
 use Rattle.flat_model.specs.Setting.{Setting, class_of_equation, partition_of, class_ticks}
 use Rattle.flat_model.specs.Typing.{types_in}
@@ -25,11 +21,10 @@ use Rattle.moment_theory.specs.Taken.{AreTaken}
 use Rattle.moment_theory.proofs.Members.{IsMember, member_contains, contains_member}
 use Rattle.step_code.specs.Machine.{word_at}
 use Rattle.part_layout.specs.Keyed.{is_boolean, keyed_cells}
-use Rattle.side_theory.specs.Kept.{IsSet}
 use Rattle.part_stretches.specs.Parts.{entries_of}
 use Rattle.part_stretches.specs.Running.{tick_in, RunsFrom}
 use Rattle.first_failure.specs.Turns.{FailsAmong, IsLeast}
-use Rattle.whole_runs.specs.Whole.{IsValuedAt, IsWhole}
+use Rattle.whole_runs.specs.Whole.{IsWhole}
 use Rattle.whole_runs.proofs.Whole.{whole}
 use Rattle.tree_step.specs.declared.cell.Cell.{Cell}
 use Rattle.tree_step.specs.declared.taking.Entry.{Entry}

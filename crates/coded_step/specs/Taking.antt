@@ -1,5 +1,5 @@
 -- What the code of a base partition's uses does at a moment. This project's own.
-use Rattle.std.specs.Prelude.{◌≡◌, ℕ, suc, true, List, vec_len, Option, Some, None, slice_get, Contains, All}
+use Rattle.std.specs.Prelude.{◌≡◌, ℕ, suc, List, vec_len, Some, None, slice_get, Contains, All}
 use Rattle.flat_model.specs.declared.expression.Expr.{Expr}
 use Rattle.flat_model.specs.Answers.{value_in}
 use Rattle.flat_model.specs.Asks.{AsksFor, OfNow, OfLast}

@@ -125,6 +125,14 @@ const RUNS: [Call; 28] = [
         "",
     ),
     (
+        &["m", "--stop", "2"],
+        "model M Integer a; Integer b; Integer c; Boolean p; equation when Clock(1) then 2 + (a - 1) - 3 = previous(a); -b = a - 10; a - c + b - 1 = 0; not p = a > 3; end when; end M;\n",
+        "",
+        Status::Done,
+        "time,a,b,c,p\n0,2,8,9,true\n1,4,6,9,false\n2,6,4,9,false\n",
+        "",
+    ),
+    (
         &["m", "--stop", "1", "--table", "t"],
         "model M input Integer z; Integer y = if z <> 0 then div(6, z) else 0; equation  end M;\n",
         "time,z\n0,0\n1,4\n",
@@ -231,7 +239,7 @@ const RUNS: [Call; 28] = [
 ];
 
 /// Runs that an arithmetic fault ends.
-const FAULTS: [Call; 5] = [
+const FAULTS: [Call; 6] = [
     (
         &["m", "--stop", "1"],
         "model M Integer x(start = 9223372036854775806); equation when Clock(1,2) then x = previous(x) + 1; end when; end M;\n",
@@ -263,6 +271,14 @@ const FAULTS: [Call; 5] = [
         Status::Faulted,
         "time,u,y\n",
         "fault divide at initial in equation 1\n",
+    ),
+    (
+        &["m", "--stop", "2"],
+        "model M Integer n; Integer x; equation when Clock(1) then n = previous(n) + 1; div(1, 2 - n) + x = 9223372036854775807 + (n - 1); end when; end M;\n",
+        "",
+        Status::Faulted,
+        "time,n,x\n0,1,9223372036854775806\n",
+        "fault divide at 1 in equation 2\n",
     ),
     (
         &["m", "--stop", "2", "--table", "t"],

@@ -7,5 +7,5 @@ mod solving;
 mod standing;
 
 pub use law::{solves_law, spine_law, unread_law};
-pub use solving::solve_value;
+pub use solving::{around, solve_value};
 pub use standing::{Manner, lags, spine};

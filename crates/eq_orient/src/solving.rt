@@ -166,7 +166,9 @@ fn before_chain<V: Lookup>(
 }
 
 /// The part of a chain in which a name is reached, with those in front of it and those behind.
-fn around(parts: &[Expr], name: u32) -> (&[Expr], &Expr, &[Expr])
+///
+/// Source: this project's own.
+pub fn around(parts: &[Expr], name: u32) -> (&[Expr], &Expr, &[Expr])
     requires { list_any (λ part. part) (map (spec.is_reached name) parts.now) ≡ true }
     ensures split { parts.now ≡ result.0.now ++ result.1.now ∷ result.2.now }
     ensures reached { spec.is_reached name result.1.now ≡ true }

@@ -1,7 +1,8 @@
 -- Lists that grow at their end.
-use Rattle.std.proofs.Common.{◌≡◌, refl, ap, ◌∙◌, sym, subst, ℕ, zero, suc, ◌+◌, ◌<◌, ◌≤◌, Bool, List, [], ◌∷◌, ◌++◌, length, take, get_or, Some, slice_get, ◌⊎◌, inl, inr, arith}
-use Rattle.std.proofs.lemmas.Option.{none-some, same_Some, slice_get-get_or, slice_get_within}
+use Rattle.std.proofs.Common.{◌≡◌, refl, ap, ◌∙◌, sym, subst, ℕ, zero, suc, ◌+◌, ◌<◌, List, [], ◌∷◌, ◌++◌, length, get_or, Option, Some, IfSome, slice_get, ◌⊎◌, inl, inr, arith}
+use Rattle.std.proofs.lemmas.Option.{none-some, same_Some, slice_get-get_or}
 use Rattle.flat_model.specs.declared.equation.Equation.{Equation}
+use Rattle.flat_model.specs.declared.expression.Expr.{Expr}
 use Rattle.flat_model.specs.declared.model.FlatName.{FlatName}
 use Rattle.flat_model.specs.Typing.{types_in}
 use Rattle.cell_keys.specs.declared.key.CellKey.{CellKey}
@@ -12,7 +13,8 @@ use Rattle.part_layout.specs.declared.lines.PartLine.{PartLine}
 use Rattle.part_layout.specs.Keyed.{is_boolean}
 use Rattle.tree_step.specs.declared.taking.Entry.{Entry}
 use Rattle.part_code.specs.declared.coded.Landing.{Landing}
-use Rattle.part_code.specs.private.Lines.{IsLineOf, ArePartLines, AreLandedTo, AreCodeLines}
+use Rattle.part_code.specs.Coded.{IsSideOf}
+use Rattle.part_code.specs.private.Lines.{AreMadeTo, IsLineOf, ArePartLines, AreLandedTo, AreCodeLines}
 
 append_cases : {A : Type 0} (xs : List A) (y : A) (j : ℕ) (x : A) → slice_get (xs ++ y ∷ []) j ≡ Some x → (slice_get xs j ≡ Some x) ⊎ ((j ≡ length xs) × (x ≡ y))
 append_cases [] y zero x found = inr (refl, sym (same_Some y x found))
@@ -65,3 +67,18 @@ code_lines_next keys lines i coded new d line one are lt is cell name side new_i
 
 pub code_lines_first : (keys : List CellKey) (lines : List PartLine) → AreCodeLines keys lines 0 []
 code_lines_first keys lines = record { size = refl; each = λ j one found. absurd (none-some one found) }
+
+pub made_next : (equations : List Equation) (entries : List Entry) (i : ℕ) (made new : List (Option Expr)) (d : Entry) (side : Option Expr) → AreMadeTo equations entries i made → i < length entries → IfSome side (IsSideOf equations (get_or entries i d)) → new ≡ made ++ side ∷ []
+    → AreMadeTo equations entries (i + 1) new
+made_next equations entries i made new d side are lt is new_is =
+    let next = fellow_next (λ (entry : Entry) (o : Option Expr). IfSome o (IsSideOf equations entry)) entries i made (get_or entries i d) side (record { size = are.size; each = are.each }) (slice_get-get_or entries i d lt) is in
+    subst (AreMadeTo equations entries (i + 1)) (sym new_is) (record { size = next.size; each = next.each })
+
+pub made_first : (equations : List Equation) (entries : List Entry) → AreMadeTo equations entries 0 []
+made_first equations entries = record { size = refl; each = λ j side found. absurd (none-some side found) }
+
+-- the side that was made for the entry in a place
+pub made_at : (equations : List Equation) (entries : List Entry) (made : List (Option Expr)) (i : ℕ) (d : Entry) (e : Option Expr) → AreMadeTo equations entries (length entries) made → i < length entries → IfSome (get_or made i e) (IsSideOf equations (get_or entries i d))
+made_at equations entries made i d e are lt =
+    let (entry, found, is) = are.each i (get_or made i e) (slice_get-get_or made i e (let size = are.size in omega (arith, size, lt))) in
+    subst (λ z. IfSome (get_or made i e) (IsSideOf equations z)) (same_Some entry (get_or entries i d) (sym found ∙ slice_get-get_or entries i d lt)) is

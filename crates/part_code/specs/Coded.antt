@@ -1,5 +1,5 @@
 -- The code of the uses of a base partition. This project's own.
-use Rattle.std.specs.Prelude.{◌≡◌, ℕ, ◌≤◌, ◌⊎◌, true, Bool, List, [], ◌∷◌, ◌++◌, length, vec_len, Option, Some, slice_get, All}
+use Rattle.std.specs.Prelude.{◌≡◌, ℕ, ◌≤◌, ◌⊎◌, true, List, [], ◌∷◌, ◌++◌, length, vec_len, Some, slice_get, All}
 use Rattle.std.specs.List.{list_any}
 use Rattle.flat_model.specs.declared.equation.Equation.{Equation}
 use Rattle.flat_model.specs.declared.expression.Expr.{Expr}
@@ -11,7 +11,6 @@ use Rattle.cell_keys.specs.declared.sight.Sight.TheVariants.{Now}
 use Rattle.cell_keys.specs.Cells.{same_key, cell_of, AreWhole}
 use Rattle.step_code.specs.Lines.{Line}
 use Rattle.step_lines.specs.Stretches.{IsStretch}
-use Rattle.side_theory.specs.Sides.{sided}
 use Rattle.part_layout.specs.Keyed.{is_boolean, keyed_cells}
 use Rattle.part_layout.specs.LayoutLaws.{AreLaid}
 use Rattle.part_layout.specs.Reads.{keys_read}
@@ -19,14 +18,15 @@ use Rattle.part_stretches.specs.declared.running.ClassStretch.{ClassStretch}
 use Rattle.part_stretches.specs.Running.{IsRunWithin}
 use Rattle.tree_step.specs.declared.taking.Entry.{Entry}
 use Rattle.tree_step.specs.Starts.{IsAmong}
+use Rattle.undone_side.specs.Undone.{IsSolvedSide}
 use Rattle.part_code.specs.declared.coded.Landing.{Landing}
 use Rattle.part_code.specs.declared.coded.Coded.{Coded}
 
--- the equation of an entry is `name = side` or `side = name`
+-- a side is what the name of an entry is by its equation
 pub record IsSideOf (equations : List Equation) (entry : Entry) (side : Expr) : Type 0 where
-  pub clause : Option ℕ
-  pub first : Bool
-  pub found : slice_get equations entry.equation ≡ Some (sided first entry.name side clause)
+  pub equation : Equation
+  pub found : slice_get equations entry.equation ≡ Some equation
+  pub solved : IsSolvedSide entry.name equation side
 
 -- the lines are those of entries whose clock has this place, one for each
 abbrev pub AreLinesFor : List Equation → ℕ → List Entry → List Line → Type 0

@@ -4,7 +4,7 @@ ghost use Rattle.part_code.specs.Coded.{IsCodeOf};
 
 use crate::coded::Coded;
 use crate::laying::{code_lines, keys_for, landings_for};
-use crate::sides::lines_for;
+use crate::sides::{lines_for, made_sides};
 use crate::stretching::{room_for, stretches_for};
 use flat_model::FlatModel;
 use std::alloc::{AllocError, Global};
@@ -16,7 +16,8 @@ fn code_of(alloc: Global, flat: &FlatModel, entries: &[Entry]) -> Result<Coded, 
     ensures { IfOk result (IsCodeOf flat.now.equations flat.now.names entries.now) }
 {
     let names = flat.names.as_slice();
-    let lines = lines_for(alloc, flat, entries)?;
+    let made = made_sides(alloc, flat, entries)?;
+    let lines = lines_for(alloc, flat, entries, &made)?;
     let keys = keys_for(alloc, &lines)?;
     let landings = landings_for(alloc, names, &keys, &lines)?;
     let coded = code_lines(alloc, &keys, &lines)?;
@@ -32,7 +33,7 @@ fn code_of(alloc: Global, flat: &FlatModel, entries: &[Entry]) -> Result<Coded, 
 }
 
 /// The uses of a base partition as prepared code, given as entries by the places of their clocks. There is none where an
-/// equation is not one between its name and a side, and where cells or instructions have no numbers of 32 bits.
+/// equation cannot be solved for its name, and where cells or instructions have no numbers of 32 bits.
 ///
 /// # Errors
 ///

@@ -1,27 +1,23 @@
 -- The table of the cells of keys is one over which code may run.
-use Rattle.std.proofs.Common.{◌≡◌, refl, ap, sym, subst, ◌∙◌, ℕ, zero, suc, ◌<◌, ◌&&◌, Bool, true, false, List, [], ◌∷◌, length, Option, Some, None, unwrap_or, slice_get, Contains, arith}
+use Rattle.std.proofs.Common.{◌≡◌, refl, ap, sym, ◌∙◌, ℕ, zero, suc, ◌&&◌, Bool, true, false, List, [], ◌∷◌, length, Option, Some, None, unwrap_or, arith}
 use Rattle.std.proofs.lemmas.Bool.{false≢true}
 use Rattle.std.proofs.lemmas.Option.{same_Some, none-some}
 use Rattle.sync_values.specs.Relation.{rank}
 use Rattle.sync_values.specs.declared.value.Value.{Value}
 use Rattle.flat_model.specs.declared.expression.Expr.{Expr}
 use Rattle.sync_values.specs.declared.value.ChainOp.TheVariants.{And}
-use Rattle.flat_model.specs.declared.expression.Expr.TheVariants.{Read, Chain, rolls-Read, rolls-Chain}
+use Rattle.flat_model.specs.declared.expression.Expr.TheVariants.{Chain, rolls-Chain}
 use Rattle.flat_model.specs.declared.clock.ClockExpr.TheOpen.{Expr-F}
 use Rattle.flat_model.specs.declared.clock.ClockExpr.TheFolds.{fold-roll-Expr}
 use Rattle.flat_model.specs.declared.model.FlatName.{FlatName}
 use Rattle.flat_model.specs.declared.model.NameKind.{NameKind}
 use Rattle.flat_model.specs.declared.model.NameKind.TheVariants as kind
-use Rattle.flat_model.specs.Runnable.{IsRunnable}
 use Rattle.flat_model.specs.Setting.{Setting}
 use Rattle.flat_model.specs.Typing.{Types, types_in, type_of, type_of_level, chain_type, valued_type}
-use Rattle.flat_model.specs.Uses.{Use}
-use Rattle.flat_model.specs.WholeTyping.{IsTyped}
-use Rattle.flat_model.proofs.WholeTypes.{whole_typed}
-use Rattle.moment_theory.proofs.FromRunnable.{all_at}
 use Rattle.cell_keys.specs.declared.key.CellKey.{CellKey}
 use Rattle.cell_keys.specs.declared.key.CellKey.TheVariants as key
 use Rattle.cell_keys.specs.Cells.{cell_of}
+use Rattle.cell_keys.specs.declared.sight.Sight.TheVariants.{Now}
 use Rattle.cell_keys.proofs.Distinct.{one_key, cell_below}
 use Rattle.step_code.specs.Code.{Cells, piece_of, is_chain}
 use Rattle.part_layout.specs.Keyed.{is_boolean, keyed_cells}
@@ -30,19 +26,13 @@ use Rattle.step_code.specs.Lines.{Line, AreApart, IsLine, IsNoCell}
 use Rattle.step_code.proofs.Known.{typed_known}
 use Rattle.step_code.proofs.Pieces.{piece_of-Chain}
 use Rattle.side_theory.specs.Kept.{IsLaidOut}
-use Rattle.side_theory.specs.Runs.{AreCelled, AreBooleans}
-use Rattle.side_theory.specs.Sides.{sided, IsSideUse}
+use Rattle.side_theory.specs.Runs.{AreCelled}
 use Rattle.side_theory.specs.SetOn.{AreNoClockCells}
-use Rattle.side_theory.specs.Stretches.{AreLinesOf}
-use Rattle.side_theory.proofs.Sided.{side_clocked, side_typed}
-use Rattle.part_layout.specs.LayoutLaws.{AreLaid, IsTable}
+use Rattle.part_layout.specs.LayoutLaws.{HasAll, AreLaid, IsTypedLine, AreTypedLines, IsTable}
+use Rattle.part_layout.specs.Reads.{keys_read}
 use Rattle.part_layout.proofs.Covering.{covered}
 
--- ---- the type of a name, and of two truth values joined
-
-type_of-Read : (types : Types) (x : ℕ) → type_of types (Read x) ≡ valued_type (types x)
-unfolding type_of
-type_of-Read types x = ap (type_of types) (sym (rolls-Read x)) ∙ fold-roll-Expr (Unit {0}) (Option NameKind) (λ _. tt) (type_of_level types) (Expr-F.Read x)
+-- ---- the type of two truth values joined
 
 -- a side twice, joined by `and`
 abbrev joined : Expr → Expr
@@ -197,7 +187,7 @@ module _ (keys : List CellKey) (names : List FlatName) (class : ℕ) where
     interval = λ n c is. (no_cell c (key.Interval class n) refl is ls laid_ls, no_unfit n (cell_of keys (key.Unfit class n)) refl ls laid_ls);
   }
 
-module _ (s : Setting) (runs : IsRunnable s) (keys : List CellKey) (class : ℕ) where
+module _ (s : Setting) (keys : List CellKey) (class : ℕ) where
   abbrev cells : Cells
   cells = keyed_cells keys s.model.names class
 
@@ -210,35 +200,26 @@ module _ (s : Setting) (runs : IsRunnable s) (keys : List CellKey) (class : ℕ)
   boolean_kind (Some kind.Clock) type e is = absurd (false≢true is)
   boolean_kind None type e is = absurd (false≢true is)
 
-  one_line : (uses : List Use) (entry : Use) (own : ℕ) (l : Line) → l.name ≡ entry.name → IsSideUse s entry l.side own → (AreLaid keys class (l ∷ [])) → IsLine cells (length keys) l
-  one_line uses entry own l name is laid_l =
-      let typed : IsTyped types (sided is.first entry.name l.side is.clause) = all_at (IsTyped types) s.model.equations entry.equation (sided is.first entry.name l.side is.clause) runs.model.typed.equations is.found in
-      let of = side_typed types is.first entry.name l.side is.clause typed in
-      let side_type : type_of types l.side ≡ Some of.0 = whole_typed types l.side of.0 of.2 in
-      let name_type : valued_type (types entry.name) ≡ Some of.0 = sym (type_of-Read types entry.name) ∙ whole_typed types (Read entry.name) of.0 of.1 in
-      let clocked = side_clocked s entry.equation is.first entry.name l.side is.clause (runs.equations entry.equation (sided is.first entry.name l.side is.clause) is.found) in
-      let has : has_cells cells l.side ≡ true = covered keys s.model.names class l.side clocked.plain laid_l.0.1 in
+  one_line : (l : Line) → IsTypedLine s l → (cell_of keys (key.Value l.name) ≡ Some l.cell) × HasAll keys (keys_read l.side class Now) → IsLine cells (length keys) l
+  one_line l typed laid_l =
+      let has : has_cells cells l.side ≡ true = covered keys s.model.names class l.side typed.plain laid_l.1 in
       record {
-        known = typed_known types cells (marked keys s.model.names class) l.side of.0 side_type has;
-        cell = laid_l.0.0;
-        below = cell_below keys (key.Value l.name) l.cell laid_l.0.0;
-        kept = λ c is_c. same_Some c l.cell (sym is_c ∙ laid_l.0.0);
-        truth = λ truth.
-            let boolean = boolean_kind (types l.name) of.0 (ap (λ x. valued_type (types x)) name ∙ name_type) truth in
-            typed_truth types cells (marked keys s.model.names class) l.side (side_type ∙ ap Some boolean) has;
+        known = typed_known types cells (marked keys s.model.names class) l.side typed.type typed.side has;
+        cell = laid_l.0;
+        below = cell_below keys (key.Value l.name) l.cell laid_l.0;
+        kept = λ c is_c. same_Some c l.cell (sym is_c ∙ laid_l.0);
+        truth = λ truth. typed_truth types cells (marked keys s.model.names class) l.side (typed.side ∙ ap Some (boolean_kind (types l.name) typed.type typed.name truth)) has;
       }
 
-  all_celled : (uses entries : List Use) (own : ℕ) (ls : List Line) → AreLinesOf s uses own entries ls → AreLaid keys class ls → AreCelled cells (length keys) ls
-  all_celled uses [] own [] lines laid_ls = tt
-  all_celled uses [] own (l ∷ ls) lines laid_ls = absurd lines
-  all_celled uses (entry ∷ entries) own [] lines laid_ls = tt
-  all_celled uses (entry ∷ entries) own (l ∷ ls) lines laid_ls = (one_line uses entry own l lines.0.1 lines.0.2 (laid_ls.0, tt), all_celled uses entries own ls lines.1 laid_ls.1)
+  all_celled : (ls : List Line) → AreTypedLines s ls → AreLaid keys class ls → AreCelled cells (length keys) ls
+  all_celled [] typed laid_ls = tt
+  all_celled (l ∷ ls) typed laid_ls = (one_line l typed.0 laid_ls.0, all_celled ls typed.1 laid_ls.1)
 
-pub is_table : (s : Setting) → IsRunnable s → (keys : List CellKey) (class : ℕ) → IsTable s keys class (keyed_cells keys s.model.names class)
-is_table s runs keys class = record {
+pub is_table : (s : Setting) (keys : List CellKey) (class : ℕ) → IsTable s keys class (keyed_cells keys s.model.names class)
+is_table s keys class = record {
   laid = laid keys s.model.names class;
   apart = apart keys s.model.names class;
   booleans = booleans keys s.model.names class;
-  celled = all_celled s runs keys class;
+  celled = all_celled s keys class;
   clock = clock_cells keys s.model.names class;
 }

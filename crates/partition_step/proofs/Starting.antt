@@ -23,9 +23,10 @@ use Rattle.moment_theory.specs.Free.{IsReachedBy, AsksLastIn, IsOrdered}
 use Rattle.moment_theory.specs.Sound.{IsClear}
 use Rattle.moment_theory.proofs.Meeting.{IsValued, IsSideClassed}
 use Rattle.moment_theory.proofs.Unknown.{known_where_ticks}
-use Rattle.side_theory.specs.Sides.{sided}
 use Rattle.part_words.specs.Words.{IsMeasuredClock}
 use Rattle.part_code.specs.Coded.{IsSideOf}
+use Rattle.undone_side.specs.Undone.{IsSolvedSide}
+use Rattle.undone_side.proofs.Kept.{solved_asks}
 use Rattle.coded_step.specs.Taking.{IsSampledBy, IsCodeStart}
 use Rattle.tree_step.specs.declared.cell.Cell.{Cell}
 use Rattle.tree_step.specs.declared.frame.ClockNow.{ClockNow}
@@ -301,12 +302,15 @@ module _ (s : Setting) (uses before own after : List Use) (partition : ℕ) (S :
 
   sampled : (e : Entry) → IsAmong e part.entries → (side : Expr) → IsSideOf telling.equations e side → IsSampledBy s S m sight side
   sampled e among side of =
-      let samples = start.told.samples (use_of e) (sided of.first e.name side of.clause) (own_among s own telling.places part.entries part.cells.items classes laid e among) (ap (λ es. slice_get es e.equation) (sym start.told.model) ∙ of.found) in
-      by_first of.first samples
+      let samples = start.told.samples (use_of e) of.equation (own_among s own telling.places part.entries part.cells.items classes laid e among) (ap (λ es. slice_get es e.equation) (sym start.told.model) ∙ of.found) in
+      by_equation of.equation of.solved samples
     where
-      by_first : (first : Bool) → AreSamplesTold s S m telling.left (sided first e.name side of.clause) → IsSampledBy s S m sight side
-      by_first true both = record { now = both.1.now; last = both.1.last }
-      by_first false both = record { now = both.0.now; last = both.0.last }
+      by_equation : (equation : Equation) → IsSolvedSide e.name equation side → AreSamplesTold s S m telling.left equation → IsSampledBy s S m sight side
+      by_equation (Valued left right clause) solved both = record {
+        now = λ y k asks. elim (solved_asks e.name left right clause side solved 1 (OfNow y) asks) [ inl one ↦ both.0.now y k one | inr one ↦ both.1.now y k one ];
+        last = λ z k asks. elim (solved_asks e.name left right clause side solved 1 (OfLast z) asks) [ inl one ↦ both.0.last z k one | inr one ↦ both.1.last z k one ];
+      }
+      by_equation (Clocks left right clause) solved both = absurd solved
 
   pub code_starts : IsCodeStart s uses before after partition S m base sight part.entries cells
   code_starts = record {

@@ -16,8 +16,8 @@ use tree_step::ClockNow;
 
 impl Part {
     /// The part of the uses of one base partition, given in their order, before the first moment. The places of the names
-    /// that they reach are written, and no others: one table serves all parts of a model. Its cost is that of its uses. Where
-    /// each equation is one between its name and a side, the part steps by prepared code.
+    /// that they reach are written, and no others: one table serves all parts of a model. Its cost is that of its uses. The
+    /// part steps by prepared code, unless cells or instructions have no numbers of 32 bits.
     ///
     /// # Errors
     ///

@@ -77,7 +77,7 @@ same_level (Expr-F.Hold n) = refl
 same_level (Expr-F.«Expr::Convert» conversion n) = refl
 same_level (Expr-F.Sample a clock) = refl
 
-same_formed : (e : Expr) → alone.is_formed e ≡ is_formed e
+pub same_formed : (e : Expr) → alone.is_formed e ≡ is_formed e
 unfolding alone.is_formed is_formed
 same_formed e = ap (λ level. fold-Expr (Unit {0}) Bool (λ _. tt) level e) (fun_ext same_level)
 

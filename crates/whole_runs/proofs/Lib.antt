@@ -1,2 +1,5 @@
-pub mod Whole
+pub mod Counting
+pub mod Onward
+pub mod Setting
 pub mod Taking
+pub mod Whole

@@ -15,18 +15,19 @@ use Rattle.step_lines.specs.declared.running.Failing.{Failing}
 use Rattle.step_lines.specs.Stretches.{RunsLines}
 use Rattle.side_theory.specs.Counted.{Begins}
 use Rattle.side_theory.specs.Kept.{IsSet, IsClockSet}
-use Rattle.side_theory.specs.Runs.{AreCelled, AllTaken, StretchTaken}
+use Rattle.side_theory.specs.Runs.{AreCelled, AllTaken}
 use Rattle.side_theory.specs.SetOn.{AreNoClockCells}
-use Rattle.side_theory.specs.Stretches.{AreLinesOf}
 use Rattle.side_theory.proofs.Counting.{reached_split, free_behind}
 use Rattle.side_theory.proofs.Keeping.{holds_row}
-use Rattle.side_theory.proofs.Setting.{taken_other, own_class, ticks_same, set_on, clock_on}
-use Rattle.side_theory.proofs.Taking.{run_takes}
+use Rattle.side_theory.proofs.Setting.{taken_other}
 use Rattle.part_stretches.specs.declared.running.ClassStretch.{ClassStretch}
 use Rattle.part_stretches.specs.declared.running.PartFailing.{PartFailing}
 use Rattle.part_stretches.specs.Running.{tick_in, GoesOn, RunsOne, RunsFrom}
 use Rattle.part_stretches.specs.Parts.{Block, entries_of, AreAlike, AllBegin}
 use Rattle.first_failure.proofs.Stepping.{set_alike, alike_back}
+use Rattle.whole_runs.specs.Lines.{AreTelling}
+use Rattle.whole_runs.proofs.Setting.{own_class, ticks_same, set_on, clock_on}
+use Rattle.whole_runs.proofs.Onward.{run_takes}
 use Rattle.whole_runs.specs.Whole.{IsCoded, AreCoded, AreToldBy}
 
 no_failing : (failing : PartFailing) → (let none : Option PartFailing = None in none) ≡ Some failing → ⊥
@@ -72,7 +73,7 @@ module _ (s : Setting) (uses : List Use) (p : Option ℕ) (common : Cells) (t : 
     pub still : (c : Option ℕ) → class_ticks s (with_row S m row) c m ≡ class_ticks s (with_row S m last) c m
 
   -- uses of a class that rests are taken, and change nothing
-  rest_taken : (class : ℕ) (row : Row) → class_ticks s (with_row S m row) (Some class) m ≡ false → (entries : List Use) (ls : List Line) → AreLinesOf s uses class entries ls → AreTaken s S m entries row row
+  rest_taken : (class : ℕ) (row : Row) → class_ticks s (with_row S m row) (Some class) m ≡ false → (entries : List Use) (ls : List Line) → AreTelling s uses class entries ls → AreTaken s S m entries row row
   rest_taken class row rests [] ls of = λ y. refl
   rest_taken class row rests (entry ∷ entries) [] of = absurd of
   rest_taken class row rests (entry ∷ entries) (l ∷ ls) of =
@@ -118,9 +119,10 @@ module _ (s : Setting) (uses : List Use) (p : Option ℕ) (common : Cells) (t : 
       start : Begins s S m row block.class before
       start = begins block.class is.partition ticks
 
-      ran : (stop : Option Failing) → RunsLines one.stretch old mid stop → StretchTaken s uses before block.entries S m row block.class block.at t mid stop × IsKeptBut t block.lines old mid
-      ran stop runs = run_takes s uses before block.entries (entries_of blocks ++ after) here block.class block.lines is.lines block.at t S m row old mid one.stretch is.stretch is.apart is.celled is.booleans start
-          (λ y reached. clear y (reached_before y block.entries (entries_of blocks) reached)) stop (holds_row s S m row block.at t old block.class is.laid ticks set_here clock) runs
+      ran : RunsLines one.stretch old mid None → AllTaken s uses before block.entries S m row block.class block.at t mid × IsKeptBut t block.lines old mid
+      ran runs = run_takes s uses before block.entries (entries_of blocks ++ after) here block.class block.lines is.lines (own_class s uses before block.entries (entries_of blocks ++ after) here block.class block.entries block.lines is.lines)
+          block.at t S m row old mid one.stretch is.stretch is.apart is.celled is.booleans start (λ y reached. clear y (reached_before y block.entries (entries_of blocks) reached))
+          (holds_row s S m row block.at t old block.class is.laid ticks set_here clock) runs
 
       module _ (all : AllTaken s uses before block.entries S m row block.class block.at t mid) (kept : IsKeptBut t block.lines old mid) where
         still_on : (c : Option ℕ) → class_ticks s (with_row S m row) c m ≡ class_ticks s (with_row S m all.last) c m
@@ -182,8 +184,9 @@ module _ (s : Setting) (uses : List Use) (p : Option ℕ) (common : Cells) (t : 
       by_tick true tick (mid, stop, ran_so, goes) past on =
           let ticks = sym told.0.0 ∙ tick in
           let clock = told.0.1 tick in
-          by_stop stop (ran before after block blocks ordered one are.0 row begins clear old set ticks clock mid stop ran_so) goes
+          by_stop stop ran_so goes (ran before after block blocks ordered one are.0 row begins clear old set ticks clock mid)
         where
-          by_stop : (stop : Option Failing) → StretchTaken s uses before block.entries S m row block.class block.at t mid stop × IsKeptBut t block.lines old mid → GoesOn i mid new None (λ z. RunsFrom (suc i) ticking stretches z new None) stop → Went before (block.entries ++ entries_of blocks) row new
-          by_stop None (all, kept) goes = on (sym told.0.0 ∙ tick) (told.0.1 tick) mid all kept goes
-          by_stop (Some failing) (of, kept) goes = absurd (no_failing (record { stretch = i; place = failing.place; kind = failing.kind }) goes.0)
+          by_stop : (stop : Option Failing) → RunsLines one.stretch old mid stop → GoesOn i mid new None (λ z. RunsFrom (suc i) ticking stretches z new None) stop
+              → (RunsLines one.stretch old mid None → AllTaken s uses before block.entries S m row block.class block.at t mid × IsKeptBut t block.lines old mid) → Went before (block.entries ++ entries_of blocks) row new
+          by_stop None runs goes taken = let (all, kept) = taken runs in on (sym told.0.0 ∙ tick) (told.0.1 tick) mid all kept goes
+          by_stop (Some failing) runs goes taken = absurd (no_failing (record { stretch = i; place = failing.place; kind = failing.kind }) goes.0)

@@ -1,10 +1,9 @@
 -- Where all went, each name whose class ticks has a value, and no equation fails.
-use Rattle.std.proofs.Common.{◌≡◌, refl, ap, sym, subst, ◌∙◌, ℕ, Bool, true, false, ℤ, List, [], ◌∷◌, ◌++◌, append_assoc, ◌⊎◌, Contains, Option, Some, None, IsSome, inl, inr, slice_get}
+use Rattle.std.proofs.Common.{◌≡◌, refl, ap, sym, subst, ◌∙◌, ℕ, Bool, true, false, ℤ, List, [], ◌∷◌, ◌++◌, append_assoc, ◌⊎◌, Contains, Option, Some, None, IsSome, inl, inr}
 use Rattle.std.proofs.lemmas.Bool.{false≢true}
 use Rattle.std.proofs.lemmas.Option.{none-some}
 use Rattle.sync_values.specs.declared.value.Value.{Value}
 use Rattle.sync_values.specs.declared.value.Fail.{Fail}
-use Rattle.flat_model.specs.declared.model.FlatName.{FlatName}
 use Rattle.flat_model.specs.Assignment.{Assignment}
 use Rattle.flat_model.specs.Faults.{EquationFails}
 use Rattle.flat_model.specs.Given.{Row, with_row}
@@ -12,23 +11,24 @@ use Rattle.flat_model.specs.Setting.{Setting, class_of_name, class_of_equation, 
 use Rattle.flat_model.specs.Uses.{Use}
 use Rattle.moment_theory.specs.Free.{IsReachedBy, AreFree, IsOrdered}
 use Rattle.moment_theory.specs.Sound.{IsSound, IsClear}
-use Rattle.moment_theory.specs.Taken.{Gives, IsTaken, AreTaken}
+use Rattle.moment_theory.specs.Taken.{AreTaken}
+use Rattle.moment_theory.proofs.Facts.{facts_of_use, class_of_use}
+use Rattle.moment_theory.proofs.FromRunnable.{facts_of}
 use Rattle.moment_theory.proofs.Rows.{row_now}
 use Rattle.moment_theory.proofs.Members.{IsMember, contains_member, reached_member}
 use Rattle.step_code.specs.Code.{Cells}
 use Rattle.side_theory.specs.Kept.{IsSet}
-use Rattle.side_theory.specs.Stretches.{AreLinesOf}
 use Rattle.side_theory.proofs.Setting.{taken_other}
 use Rattle.side_theory.proofs.Counting.{free_behind}
-use Rattle.side_theory.proofs.Side.{side_facts}
 use Rattle.step_code.specs.Lines.{Line}
 use Rattle.part_stretches.specs.declared.running.ClassStretch.{ClassStretch}
 use Rattle.part_stretches.specs.Parts.{Block, entries_of, AllBegin}
 use Rattle.part_stretches.specs.Running.{RunsFrom}
-use Rattle.first_failure.specs.Turns.{FailsAmong, IsLeast, IsTurn}
+use Rattle.first_failure.specs.Turns.{IsTurn}
 use Rattle.first_failure.proofs.Stepping.{gives_or_fails}
-use Rattle.first_failure.proofs.Turning.{all_sound, turn_of, alike_at_turn, member_back}
-use Rattle.whole_runs.specs.Whole.{IsCoded, AreCoded, AreToldBy, IsValuedAt, IsWhole}
+use Rattle.first_failure.proofs.Turning.{all_sound, turn_of, alike_at_turn}
+use Rattle.whole_runs.specs.Lines.{AreTelling}
+use Rattle.whole_runs.specs.Whole.{AreCoded, AreToldBy, IsValuedAt, IsWhole}
 use Rattle.whole_runs.proofs.Taking.{Went, went, reached_behind, reached_before, reached_once}
 
 some_of : {A : Type 0} (o : Option A) → IsSome o → (v : A) × (o ≡ Some v)
@@ -53,14 +53,14 @@ module _ (s : Setting) (uses before after : List Use) (S : Assignment) (m : ℕ)
     pub name_is : class_of_name s entry.name ≡ Some class
     pub partition : partition_of s (Some class) ≡ p
 
-  line_own : (order : List Use) → IsOrdered s uses order → (class : ℕ) → partition_of s (Some class) ≡ p → (entries : List Use) (ls : List Line) → AreLinesOf s uses class entries ls → (entry : Use) → IsMember entry entries → IsOwn entry
+  line_own : (order : List Use) → IsOrdered s uses order → (class : ℕ) → partition_of s (Some class) ≡ p → (entries : List Use) (ls : List Line) → AreTelling s uses class entries ls → (entry : Use) → IsMember entry entries → IsOwn entry
   line_own order ordered class partition [] ls of entry member = absurd member
   line_own order ordered class partition (first ∷ entries) [] of entry member = absurd of
   line_own order ordered class partition (first ∷ entries) (l ∷ ls) of entry (inl at) = subst IsOwn at (record {
     class = class;
     used = of.0.0;
     class_is = of.0.2.class_is;
-    name_is = (side_facts s uses ordered.runs ordered.uses_are.uses_are first l.side class of.0.0 of.0.2).clocked;
+    name_is = class_of_use s (facts_of s ordered.runs) first (facts_of_use s uses ordered.uses_are.uses_are first of.0.0) ∙ of.0.2.class_is;
     partition = partition;
   })
   line_own order ordered class partition (first ∷ entries) (l ∷ ls) of entry (inr member) = line_own order ordered class partition entries ls of.1 entry member

@@ -14,17 +14,17 @@ use Rattle.step_code.specs.Lines.{AreApart}
 use Rattle.step_lines.specs.Stretches.{IsStretch}
 use Rattle.side_theory.specs.Kept.{IsLaidOut, IsSet, IsClockSet}
 use Rattle.side_theory.specs.Runs.{AreCelled, AreBooleans}
-use Rattle.side_theory.specs.Stretches.{AreLinesOf}
 use Rattle.part_stretches.specs.declared.running.ClassStretch.{ClassStretch}
 use Rattle.part_stretches.specs.Parts.{Block, entries_of, AreAlike, AllBegin}
 use Rattle.part_stretches.specs.Running.{tick_in, RunsFrom}
 use Rattle.first_failure.specs.Turns.{FailsAmong, IsLeast}
+use Rattle.whole_runs.specs.Lines.{AreTelling}
 
 -- a stretch has the code of a block whose class is of base partition p; its own class number is a place of whoever runs it
 pub record IsCoded (s : Setting) (uses : List Use) (p : Option ℕ) (common : Cells) (t : ℕ) (one : ClassStretch) (block : Block) : Type 0 where
   pub partition : partition_of s (Some block.class) ≡ p
   pub stretch : IsStretch block.at t block.lines one.stretch
-  pub lines : AreLinesOf s uses block.class block.entries block.lines
+  pub lines : AreTelling s uses block.class block.entries block.lines
   pub alike : AreAlike common block.at
   pub apart : AreApart block.at
   pub celled : AreCelled block.at t block.lines

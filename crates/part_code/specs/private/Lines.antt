@@ -1,5 +1,5 @@
 -- The lines of entries, as they are found and given cells.
-use Rattle.std.specs.Prelude.{◌≡◌, ℕ, ◌<◌, Bool, List, length, Option, Some, slice_get}
+use Rattle.std.specs.Prelude.{◌≡◌, ℕ, List, length, Option, Some, IfSome, slice_get}
 use Rattle.flat_model.specs.declared.equation.Equation.{Equation}
 use Rattle.flat_model.specs.declared.expression.Expr.{Expr}
 use Rattle.flat_model.specs.declared.model.FlatName.{FlatName}
@@ -8,18 +8,16 @@ use Rattle.cell_keys.specs.declared.key.CellKey.{CellKey}
 use Rattle.cell_keys.specs.declared.key.CellKey.TheVariants.{Value}
 use Rattle.cell_keys.specs.Cells.{cell_of}
 use Rattle.step_lines.specs.declared.stretch.Line.{Line}
-use Rattle.side_theory.specs.Sides.{sided}
 use Rattle.part_layout.specs.declared.lines.PartLine.{PartLine}
 use Rattle.part_layout.specs.Keyed.{is_boolean}
 use Rattle.tree_step.specs.declared.taking.Entry.{Entry}
 use Rattle.part_code.specs.declared.coded.Landing.{Landing}
 use Rattle.part_code.specs.Coded.{IsSideOf}
 
--- an equation is `name = side` or `side = name`
-pub record IsSided (equation : Equation) (x : ℕ) (side : Expr) : Type 0 where
-  pub clause : Option ℕ
-  pub first : Bool
-  pub is : equation ≡ sided first x side clause
+-- for the first entries the sides that were made for them, where some were
+pub record AreMadeTo (equations : List Equation) (entries : List Entry) (i : ℕ) (made : List (Option Expr)) : Type 0 where
+  pub size : length made ≡ i
+  pub each : (j : ℕ) (side : Option Expr) → slice_get made j ≡ Some side → (entry : Entry) × (slice_get entries j ≡ Some entry) × IfSome side (IsSideOf equations entry)
 
 -- a line is that of an entry
 pub record IsLineOf (equations : List Equation) (entry : Entry) (line : PartLine) : Type 0 where

@@ -1,5 +1,9 @@
+use Rattle.std.proofs.Common.{length, ◌-◌, ◌≤◌}
 use Rattle.part_code.specs.private.Lines.{ArePartLines}
 use Rattle.part_code.proofs.sides.lines_for.Given as goal
 
-abbrev pub invariant-loop-entry : goal.invariant-loop-entry
-invariant-loop-entry l = ArePartLines l.flat.equations l.entries l.entry-index l.lines.items
+abbrev pub invariant-loop-i : goal.invariant-loop-i
+invariant-loop-i l = ArePartLines l.flat.equations l.entries l.i l.lines.items × (l.i ≤ length l.entries)
+
+abbrev pub decreases-loop-i : goal.decreases-loop-i
+decreases-loop-i l = length l.entries - l.i

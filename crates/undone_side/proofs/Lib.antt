@@ -1,0 +1,3 @@
+pub mod Kept
+pub mod Leading
+pub mod Values
