@@ -3,7 +3,7 @@ use crate::call::{Call, check_all};
 use clocked_run::Status;
 
 /// Runs that reach their stop.
-const RUNS: [Call; 28] = [
+const RUNS: [Call; 29] = [
     (
         &["m", "--stop", "1"],
         "model M Integer x; equation when Clock(1,2) then x = previous(x) + 1; end when; end M;\n",
