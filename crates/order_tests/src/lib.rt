@@ -1,8 +1,11 @@
-//! Tests of solving equations, of the order in which they give values to names, and of its stages.
+//! Tests of solving equations, of the order in which they give values to names, of its stages, and of groups of base
+//! partitions.
 #![tactic(auto)]
 
 #[cfg(test)]
 mod fine;
+#[cfg(test)]
+mod grouping;
 #[cfg(test)]
 mod models;
 #[cfg(test)]
