@@ -1,0 +1,4 @@
+pub mod Groups
+pub mod Laws
+pub mod Units
+pub mod private

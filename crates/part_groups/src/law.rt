@@ -1,0 +1,16 @@
+ghost use Rattle.part_groups.specs.Laws.{GroupLaw, OneGroupingLaw, UnitLaw};
+
+/// Two units are of one group exactly where a chain of needs joins them.
+pub fn group_law()
+    ensures { GroupLaw }
+{}
+
+/// Units have one grouping.
+pub fn one_grouping_law()
+    ensures { OneGroupingLaw }
+{}
+
+/// Each use of a base partition, and each use that waits for a clock, is of the unit of its number.
+pub fn unit_law()
+    ensures { UnitLaw }
+{}

@@ -1,0 +1,5 @@
+pub mod Drafts
+pub mod Moments
+pub mod Pure
+pub mod Windows
+pub mod private
