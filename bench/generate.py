@@ -2,11 +2,14 @@
 """Writes a large model of one clock: a chain of names, each of which reads the one before it.
 
     generate.py [--names N] > FILE
+    generate.py --names N --sums > FILE
+    generate.py --names N --held > FILE
     generate.py --controllers > FILE
 
 The first name counts ticks, and every other one is greater by 1 than the one before it. The names are the shortest
-that there are, so that many fit the 1,048,576 bytes that a model may have. With `--controllers` it writes classes of an
-ordinary form instead, as many as leave 16 bytes of these.
+that there are, so that many fit the 1,048,576 bytes that a model may have. With `--sums` each equation has its name inside
+a sum. With `--held` one name ticks each second, one a hundred times a second, and all others hold the slow one without a
+clock. With `--controllers` it writes classes of an ordinary form instead, as many as leave 16 bytes of these.
 """
 
 import argparse
@@ -54,26 +57,38 @@ def short_names():
                 yield name
 
 
-def model_text(count):
+def held_text(names):
+    slow, fast, *held = names
+    clocked = f"when Clock(1) then {slow}=previous({slow})+1; end when;\nwhen Clock(1,100) then {fast}=previous({fast})+1; end when;\n"
+    unclocked = "".join(f"{name}=hold({slow})+{number};\n" for number, name in enumerate(held))
+    return f"model Held\nInteger {','.join(names)};\nequation\n{clocked}{unclocked}end Held;\n"
+
+
+def model_text(count, sums, held):
     names = list(itertools.islice(short_names(), count))
+    if held:
+        return held_text(names)
     declarations = f"Integer {','.join(names)};\n"
     counter = f"{names[0]}=previous({names[0]})+1;\n"
-    chain = "".join(f"{name}={before}+1;\n" for before, name in itertools.pairwise(names))
+    form = "7-({name}-1)=7-{before};\n" if sums else "{name}={before}+1;\n"
+    chain = "".join(form.format(name=name, before=before) for before, name in itertools.pairwise(names))
     return f"model Chain\n{declarations}equation\nwhen Clock(1) then\n{counter}{chain}end when;\nend Chain;\n"
 
 
 def main():
     parser = argparse.ArgumentParser(description="Writes a chain of names as a model.")
     parser.add_argument("--names", type=int, default=60_000)
+    parser.add_argument("--sums", action="store_true")
+    parser.add_argument("--held", action="store_true")
     parser.add_argument("--controllers", action="store_true")
     options = parser.parse_args()
     if options.controllers:
         sys.stdout.write(CONTROLLER * ((MODEL_LIMIT - 16) // len(CONTROLLER)))
         return
     count = options.names
-    if count < 1:
-        sys.exit("generate.py: a chain has at least one name")
-    text = model_text(count)
+    if count < 1 + options.held:
+        sys.exit("generate.py: a chain has at least one name, and names that are held come with two clocks")
+    text = model_text(count, options.sums, options.held)
     if len(text) > MODEL_LIMIT:
         sys.exit(f"generate.py: {count} names take {len(text)} bytes, and a model may have {MODEL_LIMIT}")
     sys.stdout.write(text)

@@ -63,6 +63,8 @@ status=0
 mkdir -p "$generated"
 "$here/generate.py" --names "$names" >"$generated/chain.mo"
 "$here/generate.py" --names 5000 >"$generated/steps.mo"
+"$here/generate.py" --names 5000 --sums >"$generated/sums.mo"
+"$here/generate.py" --names 2000 --held >"$generated/held.mo"
 "$here/generate.py" --controllers >"$generated/controllers.mo"
 # Of each text the first ends in a byte of no token, and the second in a token that nothing may follow.
 for text in chain controllers; do
@@ -77,6 +79,8 @@ measure "chain, 100 rows" "$generated/chain.mo" 99 101 "99,100,101,"
 measure "5,000 equations, 2,000 ticks" "$generated/steps.mo" 1999 2001 "1999,2000,2001,"
 steps="$(fastest "$generated/steps.mo" 1999 "$generated/out.csv" 0)"
 awk -v seconds="$steps" 'BEGIN { printf "%-40s %8.1f ns, with its output\n", "an equation at a tick", seconds * 1e9 / (5000 * 2000) }'
+measure "5,000 sums, 2,000 ticks" "$generated/sums.mo" 1999 2001 "1999,2000,2001,"
+measure "1,998 held names, 10,001 rows" "$generated/held.mo" 100 10002 "100,101,10001,101,102,"
 for text in controllers chain; do
     refused "$text, divided into tokens" "$generated/$text-lexed.mo"
     refused "$text, and parsed" "$generated/$text-parsed.mo"
