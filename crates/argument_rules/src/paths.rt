@@ -6,9 +6,9 @@ ghost use Rattle.class_scopes.specs.Spelled.{spelled};
 ghost use Rattle.class_scopes.specs.Tables.{number_of, Declares};
 ghost use Rattle.argument_rules.specs.Paths as meaning;
 
-use class_scopes::{lesser, place_of, spelled};
+use class_scopes::{lesser, place_of};
 use indexmap::IndexMap;
-use mo_parser::{Arg, Span};
+use mo_parser::{Arg, Span, spelled};
 use std::alloc::{AllocError, Global};
 use std::marker::Model;
 

@@ -6,9 +6,9 @@ ghost use Rattle.class_scopes.specs.Types as types;
 ghost use Rattle.mo_parser.specs.declared.tree.Arg.TheViews.{out-Arg};
 ghost use Rattle.argument_rules.specs.Targets as meaning;
 
-use class_scopes::{File, TypeName, lesser, place_of, spelled};
+use class_scopes::{File, TypeName, lesser, place_of};
 use flat_model::NameKind;
-use mo_parser::{Arg, Path, Span};
+use mo_parser::{Arg, Path, Span, spelled};
 use scope_names::Scopes;
 
 /// What the name of an argument leads to.

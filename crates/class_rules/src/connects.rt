@@ -7,9 +7,9 @@ ghost use Rattle.class_scopes.specs.Reached.{AreReached};
 ghost use Rattle.class_scopes.specs.Types as types;
 ghost use Rattle.class_rules.specs.N8 as N8;
 
-use class_scopes::{File, TypeName, lesser, place_of, spelled};
+use class_scopes::{File, TypeName, lesser, place_of};
 use flat_model::NameKind;
-use mo_parser::{ClassDef, ClassKind, Element, Path, TreeEq};
+use mo_parser::{ClassDef, ClassKind, Element, Path, TreeEq, spelled};
 use scope_names::Scopes;
 
 /// Whether two simple types are one.

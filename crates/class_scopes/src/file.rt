@@ -6,11 +6,10 @@ ghost use Rattle.class_scopes.specs.Types as types;
 ghost use Rattle.class_scopes.specs.N2 as N2;
 ghost use Rattle.class_scopes.specs.Sources.{Numbers};
 
-use crate::spellings::spelled;
 use crate::table::{Table, table_of};
 use crate::type_name::TypeName;
 use flat_model::NameKind;
-use mo_parser::{ClassDef, Element, Path, Short, Span};
+use mo_parser::{ClassDef, Element, Path, Short, Span, spelled};
 use std::alloc::{AllocError, Global};
 
 /// A text and the classes of its tree, with the numbers of their names.

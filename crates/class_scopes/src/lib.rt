@@ -16,6 +16,6 @@ pub use file::{File, Opened};
 pub use name_rules::{declared_in, names, place_of};
 pub use named::Named;
 pub use reach::reached;
-pub use spellings::{is_time, spelled};
+pub use spellings::is_time;
 pub use table::{Declared, Table, lesser, table_of};
 pub use type_name::TypeName;

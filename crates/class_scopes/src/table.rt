@@ -4,9 +4,8 @@ ghost use Rattle.class_scopes.specs.Spelled.{spelled};
 ghost use Rattle.class_scopes.specs.Places as places;
 ghost use Rattle.class_scopes.specs.Tables.{number_of, Declares, IsTableOf, span_entry};
 
-use crate::spellings::spelled;
 use indexmap::IndexMap;
-use mo_parser::Span;
+use mo_parser::{Span, spelled};
 use std::alloc::{AllocError, Global};
 use std::marker::Model;
 

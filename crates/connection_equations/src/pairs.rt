@@ -6,10 +6,10 @@ ghost use Rattle.connection_equations.specs.Connections as connections;
 ghost use Rattle.flat_instances.specs.Kept as kept;
 
 use crate::spellings::{flat_name, member_name};
-use class_scopes::{File, Table, spelled};
+use class_scopes::{File, Table};
 use flat_instances::Item;
 use mo_connect::Pair;
-use mo_parser::{Element, Path, TreeEq};
+use mo_parser::{Element, Path, TreeEq, spelled};
 use scope_names::Scopes;
 use std::alloc::{AllocError, Global};
 use sync_values::List;

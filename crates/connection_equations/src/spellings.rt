@@ -3,8 +3,7 @@ ghost use Rattle.std.specs.Prelude.{◌≡◌, ◌∷◌, ◌++◌, IfOk};
 ghost use Rattle.class_scopes.specs.Spelled as spellings;
 ghost use Rattle.connection_equations.specs.Connections as connections;
 
-use class_scopes::spelled;
-use mo_parser::Path;
+use mo_parser::{Path, spelled};
 use std::alloc::{AllocError, Global};
 
 /// The parts of a name with dots between them.

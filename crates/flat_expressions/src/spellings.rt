@@ -2,8 +2,7 @@
 ghost use Rattle.std.specs.Prelude.{◌≡◌, ◌++◌, IfOk};
 ghost use Rattle.class_scopes.specs.Spelled as spellings;
 
-use class_scopes::spelled;
-use mo_parser::Path;
+use mo_parser::{Path, spelled};
 use std::alloc::{AllocError, Global};
 
 /// The parts of a name with dots between them.

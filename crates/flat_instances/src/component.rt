@@ -8,8 +8,8 @@ ghost use Rattle.flat_instances.specs.private.Force as force;
 use crate::item::Variable;
 use crate::modifier::{Modifier, given_to, own};
 use crate::modifiers::Modifiers;
-use class_scopes::{File, TypeName, spelled};
-use mo_parser::Element;
+use class_scopes::{File, TypeName};
+use mo_parser::{Element, spelled};
 use std::alloc::{AllocError, Global};
 use sync_values::Text;
 

@@ -4,8 +4,7 @@ ghost use Rattle.std.specs.Option.{option_copied};
 ghost use Rattle.class_scopes.specs.Spelled.{spelled};
 ghost use Rattle.flat_instances.specs.Modifications as modifications;
 
-use class_scopes::spelled;
-use mo_parser::{Arg, Span, TreeExpr};
+use mo_parser::{Arg, Span, TreeExpr, spelled};
 
 /// What is left of a path behind its first parts, where it begins with these.
 pub fn behind<'p, 'n>(text: &[u8], parts: &[Span], path: &'p [&'n [u8]]) -> Option<&'p [&'n [u8]]>

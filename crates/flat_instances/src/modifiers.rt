@@ -4,9 +4,8 @@ ghost use Rattle.class_scopes.specs.Spelled.{spelled};
 ghost use Rattle.flat_instances.specs.private.Force as force;
 
 use crate::modifier::Modifier;
-use class_scopes::spelled;
 use indexmap::IndexMap;
-use mo_parser::{Arg, Span};
+use mo_parser::{Arg, Span, spelled};
 use std::alloc::{AllocError, Global};
 
 /// The modifications that are in force in an instance, by the parts whose names they begin with, the outermost ones first.

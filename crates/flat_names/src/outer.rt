@@ -5,8 +5,8 @@ ghost use Rattle.class_scopes.specs.Types.{type_of};
 ghost use Rattle.flat_answer.specs.Inputs as inputs;
 
 use crate::table::text_table;
-use class_scopes::{File, Table, TypeName, spelled};
-use mo_parser::{ClassKind, Element};
+use class_scopes::{File, Table, TypeName};
+use mo_parser::{ClassKind, Element, spelled};
 use std::alloc::{AllocError, Global};
 use sync_values::Text;
 

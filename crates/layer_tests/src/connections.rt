@@ -115,7 +115,7 @@ fn small_classes(rt: HostRuntime) {
     have_classes(&rt, rt.alloc(), &SMALL);
 }
 
-// The pairs of each number below the count with the one before it, from the last.
+/// The pairs of each number below the count with the one before it, from the last.
 fn chain_down(rt: &impl Abort, alloc: Global, count: u32) -> Vec<(u32, u32)> {
     let mut pairs = Vec::new(alloc);
     for k in 1..count {

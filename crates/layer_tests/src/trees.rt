@@ -147,7 +147,7 @@ fn put_times(rt: &impl Abort, text: &mut Vec<u8>, piece: &[u8], times: usize) {
     }
 }
 
-// Behind what stands in front so many openings, what stands inside, and as many closing brackets.
+/// Behind what stands in front so many openings, what stands inside, and as many closing brackets.
 fn nested(rt: &impl Abort, alloc: Global, row: &Depth) -> Vec<u8> {
     let mut text = Vec::from_slice(alloc, row.0).expect(rt, "memory");
     put_times(rt, &mut text, row.1, row.3);
@@ -164,82 +164,6 @@ fn depth_of_brackets(rt: HostRuntime) {
         let end = parsed(&rt, rt.alloc(), &text).err();
         assert!(rt; end == row.4, "at {text:?}");
     }
-}
-
-const CONTROLLER: &[u8] = b"within;
-connector IntegerInput = input Integer;
-connector IntegerOutput = output Integer;
-block Filter \"mean of two\"
-  IntegerInput u;
-  IntegerOutput y;
-equation
-  y = div(u + previous(u), 2);
-  annotation(Icon(extent = {{-100.5, -100}, {100.5, 100}}));
-end Filter;
-block Controller \"integral control\"
-  parameter Integer ref = 100;
-  parameter Integer limit = 40;
-  IntegerInput u;
-  IntegerOutput y;
-protected
-  Integer e \"error\";
-  Integer sum(start = 0);
-equation
-  e = ref - u;
-  sum = max(-limit, min(limit, previous(sum) + e));
-  y = sum;
-end Controller;
-model Loop
-  input Integer level;
-  Filter f;
-  Controller c(limit = 105);
-equation
-  f.u = sample(level, Clock(1, 1000)) \"1 kHz\";
-  connect(c.y, d.u);
-  when Clock(1) then a = b; end when;
-end Loop;
-";
-
-// The numbers of elements and of equations of each class.
-const COUNTS: [(usize, usize); 5] = [(0, 0), (0, 0), (2, 1), (6, 3), (3, 3)];
-
-fn has_counts(class: &ClassDef, counts: (usize, usize)) -> bool {
-    class.elements.len() == counts.0 && class.equations.len() == counts.1
-}
-
-#[test]
-fn classes_of_a_text(rt: HostRuntime) {
-    let tree = parsed(&rt, rt.alloc(), CONTROLLER).expect(&rt, "a tree");
-    assert!(rt; tree.classes.len() == 5);
-    for k in 0..5 {
-        let class = tree.classes.get(k).expect(&rt, "a class");
-        assert!(rt; has_counts(class, COUNTS[k]), "class {k}");
-    }
-}
-
-// Whether an expression has this first byte, this byte behind it, and as a chain so many parts; 0 where it is none.
-fn is_chain(expr: &TreeExpr, at: u32, end: u32, count: usize) -> bool {
-    let parts = match &expr.node {
-        TreeNode::Chain(parts, _) => parts.len(),
-        _ => 0,
-    };
-    expr.span.at == at && expr.span.end == end && parts == count
-}
-
-fn has_spans(equations: &[TreeEq]) -> bool {
-    match equations {
-        [TreeEq::Equal(left, right)] => is_chain(left, 17, 18, 0) && is_chain(right, 21, 37, 2),
-        _ => false,
-    }
-}
-
-const SIGNED_SUM: &[u8] = b"model A equation x = -(a) + b * 2 ^ c; end A;";
-
-#[test]
-fn spans_of_expressions(rt: HostRuntime) {
-    let tree = parsed(&rt, rt.alloc(), SIGNED_SUM).expect(&rt, "a tree");
-    let class = tree.classes.get(0).expect(&rt, "a class");
-    assert!(rt; has_spans(class.equations.as_slice()));
 }
 
 const LOOP: &[u8] = b"within;
@@ -282,10 +206,53 @@ equation
   c.u = subSample(f.y, 10) \"100 Hz\";
   connect(c.y, d.u);
   valve = d.y;
+  when Clock(1) then a = b; end when;
 end Loop;
 ";
 
-// A text cut behind a token has a tree, or its fault is at its end.
+// The numbers of elements and of equations of each class.
+const COUNTS: [(usize, usize); 6] = [(0, 0), (0, 0), (2, 1), (6, 3), (2, 1), (5, 5)];
+
+fn has_counts(class: &ClassDef, counts: (usize, usize)) -> bool {
+    class.elements.len() == counts.0 && class.equations.len() == counts.1
+}
+
+#[test]
+fn classes_of_a_text(rt: HostRuntime) {
+    let tree = parsed(&rt, rt.alloc(), LOOP).expect(&rt, "a tree");
+    assert!(rt; tree.classes.len() == 6);
+    for k in 0..6 {
+        let class = tree.classes.get(k).expect(&rt, "a class");
+        assert!(rt; has_counts(class, COUNTS[k]), "class {k}");
+    }
+}
+
+/// Whether an expression has this first byte, this byte behind it, and as a chain so many parts; 0 where it is none.
+fn is_chain(expr: &TreeExpr, at: u32, end: u32, count: usize) -> bool {
+    let parts = match &expr.node {
+        TreeNode::Chain(parts, _) => parts.len(),
+        _ => 0,
+    };
+    expr.span.at == at && expr.span.end == end && parts == count
+}
+
+fn has_spans(equations: &[TreeEq]) -> bool {
+    match equations {
+        [TreeEq::Equal(left, right)] => is_chain(left, 17, 18, 0) && is_chain(right, 21, 37, 2),
+        _ => false,
+    }
+}
+
+const SIGNED_SUM: &[u8] = b"model A equation x = -(a) + b * 2 ^ c; end A;";
+
+#[test]
+fn spans_of_expressions(rt: HostRuntime) {
+    let tree = parsed(&rt, rt.alloc(), SIGNED_SUM).expect(&rt, "a tree");
+    let class = tree.classes.get(0).expect(&rt, "a class");
+    assert!(rt; has_spans(class.equations.as_slice()));
+}
+
+/// A text cut behind a token has a tree, or its fault is at its end.
 fn is_answered(rt: &impl Abort, alloc: Global, text: &[u8], end: u32) -> bool {
     let cut = end as usize;
     assert!(rt; cut <= text.len());
@@ -309,7 +276,7 @@ fn cut_texts(rt: HostRuntime) {
     }
 }
 
-// The text with other bytes where a token stands.
+/// The text with other bytes where a token stands.
 fn replaced(rt: &impl Abort, alloc: Global, text: &[u8], token: Token, by: &[u8]) -> Vec<u8> {
     let at = token.at as usize;
     let end = token.end as usize;
@@ -326,7 +293,7 @@ const REPLACEMENTS: [(&[u8], SyntaxCode); 3] = [
     (b" 1.5 ", SyntaxCode::S3),
 ];
 
-// The fault of a text with a token replaced is at the token put in, which has a space before it.
+/// The fault of a text with a token replaced is at the token put in, which has a space before it.
 fn has_replaced_fault(rt: &impl Abort, alloc: Global, text: &[u8], token: Token) {
     assert!(rt; token.at < u32::MAX);
     for &(by, code) in &REPLACEMENTS {

@@ -11,7 +11,7 @@ use Rattle.mo_lexer.specs.declared.token.Sym.TheVariants as sym_of
 use Rattle.mo_lexer.specs.Bytes.{is_in_line}
 use Rattle.mo_lexer.specs.Spelling.{Spells, IsUnended, IsLineComment, IsBlockComment, IsOpenComment, IsOpenText, symbol_bytes}
 use Rattle.mo_lexer.specs.Tokens.{Begins}
-use Rattle.mo_lexer.specs.Front.{HasEnd, EndsComment}
+use Rattle.mo_lexer.specs.private.Front.{HasEnd, EndsComment}
 use Rattle.mo_lexer.proofs.Pieces.{begins, most, all_pass, run_split}
 use Rattle.mo_lexer.proofs.FirstBytes.{slash_only, spelled_as}
 

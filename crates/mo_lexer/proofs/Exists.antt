@@ -12,7 +12,7 @@ use Rattle.mo_lexer.specs.declared.token.Sym.TheVariants as sym_of
 use Rattle.mo_lexer.specs.Bytes.{is_separator, is_letter, is_digit, is_exponent_letter}
 use Rattle.mo_lexer.specs.Spelling.{IsOpenText}
 use Rattle.mo_lexer.specs.Tokens.{Begins, BeginsNone, Divided, Faulty, ended, gap, token, no_piece, refused, later, token_of, mark_len, HasTokens, HasFault}
-use Rattle.mo_lexer.specs.Front.{EndsText, HasEnd, EndsComment, HasExponent, IsSymbolOf, has_point, sign_len, is_other}
+use Rattle.mo_lexer.specs.private.Front.{EndsText, HasEnd, EndsComment, HasExponent, IsSymbolOf, has_point, sign_len, is_other}
 use Rattle.std.proofs.lemmas.List.{length-take}
 use Rattle.std.proofs.lemmas.Slice.Eq.{bytes_eq-Decides}
 use borrow.Author.Count.{below_more}

@@ -6,7 +6,7 @@ use Rattle.mo_lexer.specs.declared.piece.Piece.TheVariants as piece
 use Rattle.mo_lexer.specs.declared.token.Sym.{Sym}
 use Rattle.mo_lexer.specs.Bytes.{is_separator, is_letter, is_digit}
 use Rattle.mo_lexer.specs.Spelling.{Spells}
-use Rattle.mo_lexer.specs.Front.{is_other}
+use Rattle.mo_lexer.specs.private.Front.{is_other}
 use Rattle.mo_lexer.proofs.Pieces.{both, is_mark, starts}
 
 -- ---- what a byte cannot be besides

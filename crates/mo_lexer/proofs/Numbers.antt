@@ -11,7 +11,7 @@ use Rattle.mo_lexer.specs.declared.piece.Piece.TheVariants as piece
 use Rattle.mo_lexer.specs.Bytes.{is_digit, is_exponent_letter}
 use Rattle.mo_lexer.specs.Spelling.{Spells, IsRun, IsSign, IsExponent, IsPointed, IsScaled}
 use Rattle.mo_lexer.specs.Tokens.{Begins}
-use Rattle.mo_lexer.specs.Front.{has_point, sign_len, HasExponent}
+use Rattle.mo_lexer.specs.private.Front.{has_point, sign_len, HasExponent}
 use Rattle.mo_lexer.proofs.Pieces.{both, begins, most, all_pass, first_run, run_split}
 use Rattle.mo_lexer.proofs.FirstBytes.{digit_only, spelled_as}
 

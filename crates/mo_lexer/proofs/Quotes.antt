@@ -7,7 +7,7 @@ use Rattle.mo_lexer.specs.declared.piece.Piece.{Piece}
 use Rattle.mo_lexer.specs.declared.piece.Piece.TheVariants as piece
 use Rattle.mo_lexer.specs.Spelling.{Spells, is_quoted, IsText, IsOpenComment, IsOpenText}
 use Rattle.mo_lexer.specs.Tokens.{Begins}
-use Rattle.mo_lexer.specs.Front.{EndsText}
+use Rattle.mo_lexer.specs.private.Front.{EndsText}
 use Rattle.mo_lexer.proofs.Pieces.{both, both_true, begins}
 use Rattle.mo_lexer.proofs.FirstBytes.{quote_only, spelled_as}
 

@@ -8,7 +8,7 @@ use Rattle.mo_lexer.specs.declared.fault.LexCode.{LexCode}
 use Rattle.mo_lexer.specs.declared.piece.Piece.{Piece}
 use Rattle.mo_lexer.specs.Bytes.{is_digit}
 use Rattle.mo_lexer.specs.Tokens.{Begins, Divided, Faulty, gap, token, later}
-use Rattle.mo_lexer.specs.Front.{IsNext, noted}
+use Rattle.mo_lexer.specs.private.Front.{IsNext, noted}
 use Rattle.mo_lexer.proofs.Pieces.{both, some_bytes}
 
 -- ---- numbers

@@ -8,7 +8,7 @@ use Rattle.mo_lexer.specs.declared.token.Sym.{Sym}
 use Rattle.mo_lexer.specs.declared.token.Sym.TheVariants as sym_of
 use Rattle.mo_lexer.specs.Spelling.{Spells, symbol_bytes}
 use Rattle.mo_lexer.specs.Tokens.{Begins, BeginsNone}
-use Rattle.mo_lexer.specs.Front.{is_other, IsSymbolOf}
+use Rattle.mo_lexer.specs.private.Front.{is_other, IsSymbolOf}
 use Rattle.mo_lexer.proofs.Pieces.{begins, some_bytes}
 use Rattle.mo_lexer.proofs.FirstBytes.{symbol_only, spelled_as}
 

@@ -2,4 +2,4 @@ pub mod Bytes
 pub mod Spelling
 pub mod Keywords
 pub mod Tokens
-pub mod Front
+pub mod private

@@ -14,10 +14,6 @@ use Rattle.mo_lexer.specs.declared.fault.LexEnd.TheVariants as ends
 use Rattle.mo_lexer.specs.Spelling.{Spells}
 use Rattle.mo_lexer.specs.Keywords.{keyword_of}
 
--- the bytes of the text that a token stands on
-abbrev pub spelling : List ℕ → Token → List ℕ
-spelling text token = take (token.end - token.at) (drop token.at text)
-
 -- a piece of this kind and length begins the bytes, and no longer piece of any kind begins them
 pub record Begins (kind : Piece) (len : ℕ) (bytes : List ℕ) : Type 0 where
   pub within : len ≤ length bytes

@@ -1,4 +1,6 @@
 use std::alloc::AllocError;
+use std::error::Error;
+use std::fmt;
 
 /// Why a text has no tokens.
 #[derive(Clone, Copy, Debug, PartialEq, Eq)]
@@ -21,6 +23,17 @@ pub enum LexEnd {
     /// Memory was refused.
     NoMemory,
 }
+
+impl fmt::Display for LexEnd {
+    fn fmt<W: fmt::Write>(&self, f: &mut fmt::Formatter<W>) -> fmt::Result {
+        match self {
+            LexEnd::Fault { code, at } => write!(f, "{code:?} at byte {at}"),
+            LexEnd::NoMemory => write!(f, "no memory"),
+        }
+    }
+}
+
+impl Error for LexEnd {}
 
 impl From<AllocError> for LexEnd {
     ghost use Rattle.std.specs.Prelude.{◌≡◌};

@@ -2,41 +2,41 @@
 ghost use Rattle.std.specs.Prelude.{◌≡◌, ◌<◌, ◌≤◌, length, drop, take_while, slice_index, IsTrue, [], ◌∷◌};
 ghost use Rattle.mo_lexer.specs.Bytes.{is_separator, is_digit, is_word_byte, is_in_line};
 ghost use Rattle.mo_lexer.specs.Tokens.{Begins};
-ghost use Rattle.mo_lexer.specs.Front.{BeginsWith, is_other, has_point, sign_len, HasExponent, EndsText, EndsComment, IsSymbolOf};
+ghost use Rattle.mo_lexer.specs.private.Front.{BeginsWith, is_other, has_point, sign_len, HasExponent, EndsText, EndsComment, IsSymbolOf};
 
 use crate::byte::{digit, exponent_letter, in_line, letter, separator, word_byte};
 use crate::piece::Piece;
 use crate::token::Sym;
 
-// How many bytes at the front are separators.
+/// How many bytes at the front are separators.
 fn separators_len(text: &[u8]) -> usize
     ensures { result ≡ length (take_while is_separator text.now) }
 {
     text.iter().take_while(|byte| separator(**byte)).count()
 }
 
-// How many bytes at the front are letters, digits or `_`.
+/// How many bytes at the front are letters, digits or `_`.
 fn word_len(text: &[u8]) -> usize
     ensures { result ≡ length (take_while is_word_byte text.now) }
 {
     text.iter().take_while(|byte| word_byte(**byte)).count()
 }
 
-// How many bytes at the front are digits.
+/// How many bytes at the front are digits.
 fn digits_len(text: &[u8]) -> usize
     ensures { result ≡ length (take_while is_digit text.now) }
 {
     text.iter().take_while(|byte| digit(**byte)).count()
 }
 
-// How many bytes at the front are in the line.
+/// How many bytes at the front are in the line.
 fn line_len(text: &[u8]) -> usize
     ensures { result ≡ length (take_while is_in_line text.now) }
 {
     text.iter().take_while(|byte| in_line(**byte)).count()
 }
 
-// The bytes from a place on.
+/// The bytes from a place on.
 pub(crate) fn rest_from(text: &[u8], at: usize) -> &[u8]
     requires { at ≤ length text.now }
     ensures { result.now ≡ drop at text.now }
@@ -44,7 +44,7 @@ pub(crate) fn rest_from(text: &[u8], at: usize) -> &[u8]
     &text[at..]
 }
 
-// How many bytes a sign at the front has.
+/// How many bytes a sign at the front has.
 fn sign_len(text: &[u8]) -> usize
     ensures { result ≡ sign_len text.now }
 {
@@ -54,7 +54,7 @@ fn sign_len(text: &[u8]) -> usize
     }
 }
 
-// How many bytes the exponent at the front has, or 0.
+/// How many bytes the exponent at the front has, or 0.
 fn exponent_len(text: &[u8]) -> usize
     ensures { HasExponent text.now result }
 {
@@ -70,18 +70,15 @@ fn exponent_len(text: &[u8]) -> usize
     if digits == 0 { 0 } else { 1 + sign + digits }
 }
 
-// Whether the bytes begin with a point.
+/// Whether the bytes begin with a point.
 fn has_point(text: &[u8]) -> bool
     ensures value { result ≡ has_point text.now }
     ensures some { IsTrue result → 1 ≤ length text.now }
 {
-    match text {
-        [b'.', ..] => true,
-        _ => false,
-    }
+    matches!(text, [b'.', ..])
 }
 
-// The number that begins with this digit.
+/// The number that begins with this digit.
 fn number(text: &[u8]) -> (Piece, usize)
     requires some { 0 < length text.now }
     requires digit { IsTrue (is_digit (slice_index text.now 0)) }
@@ -103,7 +100,7 @@ fn number(text: &[u8]) -> (Piece, usize)
     }
 }
 
-// Where the quote stands that ends a Text, in the bytes behind its first quote.
+/// Where the quote stands that ends a Text, in the bytes behind its first quote.
 fn text_end(inside: &[u8]) -> Option<usize>
     ensures { EndsText inside.now result }
 {
@@ -120,7 +117,7 @@ fn text_end(inside: &[u8]) -> Option<usize>
     None
 }
 
-// Where the first `*/` stands.
+/// Where the first `*/` stands.
 fn comment_end(inside: &[u8]) -> Option<usize>
     ensures { EndsComment inside.now result }
 {
@@ -132,7 +129,7 @@ fn comment_end(inside: &[u8]) -> Option<usize>
     None
 }
 
-// The Text that begins with this quote.
+/// The Text that begins with this quote.
 fn quoted(text: &[u8]) -> (Piece, usize)
     requires some { 0 < length text.now }
     requires quote { slice_index text.now 0 ≡ 34 }
@@ -144,7 +141,7 @@ fn quoted(text: &[u8]) -> (Piece, usize)
     }
 }
 
-// The comment or symbol that begins with this slash.
+/// The comment or symbol that begins with this slash.
 fn slash(text: &[u8]) -> (Piece, usize)
     requires some { 0 < length text.now }
     requires slash { slice_index text.now 0 ≡ 47 }
@@ -164,7 +161,7 @@ fn slash(text: &[u8]) -> (Piece, usize)
     }
 }
 
-// The symbol of one byte.
+/// The symbol of one byte.
 fn short_symbol(byte: u8) -> Option<Sym>
     ensures { IsSymbolOf (byte ∷ []) result }
 {
@@ -191,7 +188,7 @@ fn short_symbol(byte: u8) -> Option<Sym>
     }
 }
 
-// The symbol of two bytes.
+/// The symbol of two bytes.
 fn long_symbol(first: u8, second: u8) -> Option<Sym>
     ensures { IsSymbolOf (first ∷ second ∷ []) result }
 {
@@ -205,7 +202,7 @@ fn long_symbol(first: u8, second: u8) -> Option<Sym>
     }
 }
 
-// The symbol at the front, where nothing else can begin.
+/// The symbol at the front, where nothing else can begin.
 fn marked(text: &[u8]) -> Option<(Piece, usize)>
     requires some { 0 < length text.now }
     requires other { IsTrue (is_other (slice_index text.now 0)) }

@@ -95,14 +95,14 @@ const TWELVE: [(&[u8], Word); 1] = [(b"encapsulated", Word::KwEncapsulated)];
 
 const THIRTEEN: [(&[u8], Word); 1] = [(b"constrainedby", Word::KwConstrainedby)];
 
-// Whether two words have the same bytes.
+/// Whether two words have the same bytes.
 fn same_word(a: &[u8], b: &[u8]) -> bool
     ensures { result ≡ bytes_eq a.now b.now }
 {
     a == b
 }
 
-// The entry of a table that has this spelling.
+/// The entry of a table that has this spelling.
 fn entry(mut table: &[(&[u8], Word)], word: &[u8]) -> Option<Word>
     ensures { result ≡ entry_of word.now (entries table.entry.now) }
 {

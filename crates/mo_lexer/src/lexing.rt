@@ -4,7 +4,7 @@ ghost use Rattle.mo_lexer.specs.Bytes.{is_digit};
 ghost use Rattle.mo_lexer.specs.Spelling.{Spells};
 ghost use Rattle.mo_lexer.specs.Keywords.{keyword_of};
 ghost use Rattle.mo_lexer.specs.Tokens.{Lexes, mark_len, token_of, value_of, word_token};
-ghost use Rattle.mo_lexer.specs.Front.{IsNext, noted};
+ghost use Rattle.mo_lexer.specs.private.Front.{IsNext, noted};
 
 use crate::fault::{LexCode, LexEnd};
 use crate::front::{next_piece, rest_from};
@@ -16,7 +16,7 @@ use sync_values::List;
 
 const MAX_IDENT_LEN: usize = 128;
 
-// The number that digits stand for, where it is below 2^63.
+/// The number that digits stand for, where it is below 2^63.
 fn value(digits: &[u8]) -> Option<u64>
     requires { IsTrue (list_all is_digit digits.now) }
     ensures { SomeIff result (value_of digits.now < 2 ^ 63) (value_of digits.now) }
@@ -32,7 +32,7 @@ fn value(digits: &[u8]) -> Option<u64>
     Some(value)
 }
 
-// The token of a name or keyword.
+/// The token of a name or keyword.
 fn word_kind(word: &[u8]) -> Result<Option<TokenKind>, LexCode>
     ensures { result ≡ word_token (keyword_of word.now) word.now }
 {
@@ -43,7 +43,7 @@ fn word_kind(word: &[u8]) -> Result<Option<TokenKind>, LexCode>
     }
 }
 
-// The token of a piece, or the code by which it is refused.
+/// The token of a piece, or the code by which it is refused.
 fn token_kind(piece: Piece, bytes: &[u8]) -> Result<Option<TokenKind>, LexCode>
     requires { Spells piece bytes.now }
     ensures { result ≡ token_of piece bytes.now }
@@ -62,7 +62,7 @@ fn token_kind(piece: Piece, bytes: &[u8]) -> Result<Option<TokenKind>, LexCode>
     }
 }
 
-// The token, if any, and the length of the piece at a place, or the fault there.
+/// The token, if any, and the length of the piece at a place, or the fault there.
 fn next(text: &[u8], at: usize) -> Result<(Option<TokenKind>, usize), LexCode>
     requires { at < length text.now }
     ensures { IsNext text.now at result }
@@ -77,7 +77,7 @@ fn next(text: &[u8], at: usize) -> Result<(Option<TokenKind>, usize), LexCode>
     }
 }
 
-// Notes the token of a piece, if it has one.
+/// Notes the token of a piece, if it has one.
 fn note(
     tokens: &mut List<Token>,
     found: Option<TokenKind>,
@@ -92,7 +92,7 @@ fn note(
     Ok(())
 }
 
-// How many bytes the byte order mark at the start has.
+/// How many bytes the byte order mark at the start has.
 fn mark_len(text: &[u8]) -> usize
     ensures value { result ≡ mark_len text.now }
     ensures within { result ≤ length text.now }

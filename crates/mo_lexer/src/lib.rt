@@ -13,5 +13,4 @@ mod token;
 pub use fault::{LexCode, LexEnd};
 pub use law::tokens_law;
 pub use lexing::lex;
-pub use piece::Piece;
 pub use token::{Sym, Token, TokenKind, Word};

@@ -1,6 +1,7 @@
 pub mod Tests
 pub mod Names
 pub mod Operators
+pub mod Chains
 pub mod Expressions
 pub mod Nested
 pub mod Words

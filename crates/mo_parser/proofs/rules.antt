@@ -6,3 +6,5 @@ pub mod One
 pub mod Then
 pub mod Choose
 pub mod Many
+pub mod Levels
+pub mod Within

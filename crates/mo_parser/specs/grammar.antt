@@ -1,5 +1,6 @@
 pub mod Places
 pub mod Rules
+pub mod Spans
 pub mod Kinds
 pub mod Names
 pub mod Trees

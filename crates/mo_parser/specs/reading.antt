@@ -1,3 +1,4 @@
+pub mod Starts
 pub mod Outcomes
 pub mod Names
 pub mod Expressions

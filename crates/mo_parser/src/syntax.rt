@@ -6,6 +6,8 @@ use crate::grammar::{Halt, Reader, Tokens, is_end, is_foreign};
 use crate::tree::Tree;
 use mo_lexer::Token;
 use std::alloc::Global;
+use std::error::Error;
+use std::fmt;
 use sync_values::List;
 
 /// How many levels of round, curly and square brackets and if-expressions may be opened inside each other.
@@ -19,6 +21,17 @@ pub enum ParseEnd {
     NoMemory,
 }
 
+impl fmt::Display for ParseEnd {
+    fn fmt<W: fmt::Write>(&self, f: &mut fmt::Formatter<W>) -> fmt::Result {
+        match self {
+            ParseEnd::Fault { code, at } => write!(f, "{code:?} at byte {at}"),
+            ParseEnd::NoMemory => write!(f, "no memory"),
+        }
+    }
+}
+
+impl Error for ParseEnd {}
+
 /// What is wrong at a token.
 #[derive(Clone, Copy, Debug, PartialEq, Eq)]
 pub enum SyntaxCode {
@@ -30,6 +43,7 @@ pub enum SyntaxCode {
     S3,
 }
 
+/// The refusal at a token that no text of the grammar has there.
 fn refused(token: Token) -> ParseEnd
     ensures { result ≡ refused_at token }
 {

@@ -21,5 +21,5 @@ pub use no_fail_sink::NoFailSink;
 pub use no_memory::NoMemory;
 pub use shelf::{Read, Shelf};
 pub use sink::{Put, Sink, WriteFailed, put_all};
-pub use system::{ErrSink, FileShelf, OutSink};
+pub use system::{ErrSink, FileShelf, OutSink, WriteSink};
 pub use whole::{ReadEnd, read_whole};

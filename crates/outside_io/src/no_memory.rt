@@ -1,5 +1,7 @@
 //! Want of memory.
 use std::alloc::AllocError;
+use std::error::Error;
+use std::fmt;
 
 /// Memory was refused.
 #[derive(Clone, Copy, Debug)]
@@ -10,3 +12,11 @@ impl From<AllocError> for NoMemory {
         NoMemory
     }
 }
+
+impl fmt::Display for NoMemory {
+    fn fmt<W: fmt::Write>(&self, f: &mut fmt::Formatter<W>) -> fmt::Result {
+        write!(f, "no memory")
+    }
+}
+
+impl Error for NoMemory {}

@@ -4,6 +4,9 @@ ghost use Rattle.outside_io.specs.Counts.{Rose};
 ghost use Rattle.outside_io.specs.Puts.{Takes};
 ghost use Rattle.outside_io.specs.Texts.{grown, GrewByPrefix};
 
+use std::error::Error;
+use std::fmt;
+
 /// How much of a piece a sink took.
 #[derive(Clone, Copy)]
 pub enum Put {
@@ -14,8 +17,16 @@ pub enum Put {
 }
 
 /// A put failed, so not the whole of a piece was put.
-#[derive(Clone, Copy, PartialEq, Eq)]
+#[derive(Clone, Copy, Debug, PartialEq, Eq)]
 pub struct WriteFailed;
+
+impl fmt::Display for WriteFailed {
+    fn fmt<W: fmt::Write>(&self, f: &mut fmt::Formatter<W>) -> fmt::Result {
+        write!(f, "a write failed")
+    }
+}
+
+impl Error for WriteFailed {}
 
 /// A text that grows, with the faults of writing it counted.
 pub trait Sink {

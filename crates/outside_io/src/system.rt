@@ -73,29 +73,35 @@ fn read_at<R: Files>(rt: &R, name: &str, at: u64, into: &mut [u8]) -> io::Result
     file.read(into)
 }
 
-/// The standard output of the machine. A write that fails, or that takes nothing, is a fault.
+/// An output of the machine. A write that fails, or that takes nothing, is a fault.
 #[derive(Drop)]
-pub struct OutSink<W: Write + Drop> {
+pub struct WriteSink<W: Write + Drop> {
     inner: W,
     faults: u64,
 }
 
-impl<W: Write + Drop> Model for OutSink<W> {
+/// The standard output of the machine.
+pub type OutSink<W> = WriteSink<W>;
+
+/// The standard error of the machine.
+pub type ErrSink<W> = WriteSink<W>;
+
+impl<W: Write + Drop> Model for WriteSink<W> {
     ghost Value = { ℕ };
 
     ghost view = { λ s. s.faults };
 }
 
-impl<W: Write + Drop> OutSink<W> {
-    /// Writes to the standard output, which is passed as `inner`. No fault is counted yet.
-    pub fn new(inner: W) -> OutSink<W>
+impl<W: Write + Drop> WriteSink<W> {
+    /// Writes to the output that is passed as `inner`. No fault is counted yet.
+    pub fn new(inner: W) -> WriteSink<W>
         ensures { result ≡ 0 }
     {
-        OutSink { inner, faults: 0 }
+        WriteSink { inner, faults: 0 }
     }
 }
 
-impl<W: Write + Drop> Sink for OutSink<W> {
+impl<W: Write + Drop> Sink for WriteSink<W> {
     ghost text = { λ s. None };
 
     ghost faults = { λ s. s };
@@ -110,64 +116,12 @@ impl<W: Write + Drop> Sink for OutSink<W> {
         ensures quiet { result ≢ Put.Failed → self.new ≡ self.old }
         ensures counts { self.old ≤ self.new }
     {
-        write_some(&mut self.inner, piece, &mut self.faults)
-    }
-}
-
-/// The standard error of the machine. A write that fails, or that takes nothing, is a fault.
-#[derive(Drop)]
-pub struct ErrSink<W: Write + Drop> {
-    inner: W,
-    faults: u64,
-}
-
-impl<W: Write + Drop> Model for ErrSink<W> {
-    ghost Value = { ℕ };
-
-    ghost view = { λ s. s.faults };
-}
-
-impl<W: Write + Drop> ErrSink<W> {
-    /// Writes to the standard error, which is passed as `inner`. No fault is counted yet.
-    pub fn new(inner: W) -> ErrSink<W>
-        ensures { result ≡ 0 }
-    {
-        ErrSink { inner, faults: 0 }
-    }
-}
-
-impl<W: Write + Drop> Sink for ErrSink<W> {
-    ghost text = { λ s. None };
-
-    ghost faults = { λ s. s };
-
-    fn put(&mut self, piece: &[u8]) -> Put
-        requires { 0 < length piece.now }
-        ensures count { self.new ≡ faults_after_put self.old result }
-
-        // As each sink does.
-        ensures takes { Takes piece.now None None result }
-        ensures failed { result ≡ Put.Failed → Rose self.old self.new }
-        ensures quiet { result ≢ Put.Failed → self.new ≡ self.old }
-        ensures counts { self.old ≤ self.new }
-    {
-        write_some(&mut self.inner, piece, &mut self.faults)
-    }
-}
-
-/// Writes the first bytes of a piece, and counts a write that fails or takes nothing.
-fn write_some<W: Write>(inner: &mut W, piece: &[u8], faults: &mut u64) -> Put
-    requires { 0 < length piece.now }
-    ensures takes { Takes piece.now None None result }
-    ensures count { faults.new ≡ faults_after_put faults.old result }
-    ensures failed { result ≡ Put.Failed → Rose faults.old faults.new }
-    ensures counts { faults.old ≤ faults.new }
-{
-    match inner.write(piece) {
-        Ok(count) if count > 0 => Put::Taken(count),
-        _ => {
-            *faults = faults.saturating_add(1);
-            Put::Failed
+        match self.inner.write(piece) {
+            Ok(count) if count > 0 => Put::Taken(count),
+            _ => {
+                self.faults = self.faults.saturating_add(1);
+                Put::Failed
+            }
         }
     }
 }

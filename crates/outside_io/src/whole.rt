@@ -6,12 +6,14 @@ ghost use Rattle.outside_io.specs.declared.whole.ReadEnd.TheVariants.{NoMemory};
 
 use crate::shelf::{Read, Shelf};
 use std::alloc::{AllocError, Global};
+use std::error::Error;
+use std::fmt;
 
 /// The most bytes that one read asks for.
 const PART_LEN: usize = 16_384;
 
 /// Why a file was not read whole.
-#[derive(Clone, Copy, PartialEq, Eq)]
+#[derive(Clone, Copy, Debug, PartialEq, Eq)]
 pub enum ReadEnd {
     /// A read failed.
     Failed,
@@ -20,6 +22,18 @@ pub enum ReadEnd {
     /// Memory was refused.
     NoMemory,
 }
+
+impl fmt::Display for ReadEnd {
+    fn fmt<W: fmt::Write>(&self, f: &mut fmt::Formatter<W>) -> fmt::Result {
+        match self {
+            ReadEnd::Failed => write!(f, "a read failed"),
+            ReadEnd::TooLong => write!(f, "the file is too long"),
+            ReadEnd::NoMemory => write!(f, "no memory"),
+        }
+    }
+}
+
+impl Error for ReadEnd {}
 
 impl From<AllocError> for ReadEnd {
     ghost from_gives = { λ _ end. end ≡ NoMemory };

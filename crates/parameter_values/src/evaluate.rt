@@ -7,10 +7,10 @@ ghost use Rattle.parameter_values.specs.Values as values;
 ghost use Rattle.parameter_values.specs.private.Outcomes as outcomes;
 ghost use Rattle.parameter_values.specs.private.Givens as givens;
 
-use class_scopes::{Table, is_time, spelled};
+use class_scopes::{Table, is_time};
 use flat_model::{Fun, NameKind};
 use mo_order::{Given, Giver, values_of};
-use mo_parser::{Path, TreeExpr, TreeNode};
+use mo_parser::{Path, TreeExpr, TreeNode, spelled};
 use std::alloc::{AllocError, Global};
 use sync_values::{
     ChainOp, Fail, Rel, Text, Value, abs, add, div, greatest, least, modulo, mul, neg, relate, rem,

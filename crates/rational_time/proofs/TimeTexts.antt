@@ -1,16 +1,16 @@
 -- Time texts read from the front: the digits first, then what follows them.
-use Rattle.std.proofs.Common.{◌≡◌, ◌≢◌, refl, sym, ◌∙◌, ap, subst, ℕ, ◌+◌, ◌*◌, ◌^◌, ◌<◌, ◌≤◌, ◌++◌, List, [], ◌∷◌, length, arith, append-nil, pow-suc, get_or, zero, suc, take, length-append, Option, Some, None, MatchOption, Err, ok_or, IsNone, IfSome, IfOk, ◌↔◌, true, false, lit≤, lit<}
+use Rattle.std.proofs.Common.{◌≡◌, ◌≢◌, refl, sym, ◌∙◌, ap, subst, ℕ, ◌+◌, ◌*◌, ◌^◌, ◌<◌, ◌≤◌, ◌++◌, List, [], ◌∷◌, length, arith, append-nil, pow-suc, get_or, zero, suc, take, Option, Some, None, MatchOption, Err, ok_or, IsNone, IfSome, IfOk, ◌↔◌, true, false, lit≤, lit<}
 use Rattle.std.specs.Char.{digit_value}
 use Rattle.std.specs.Str.Parse.{AllDigits, digits_value}
 use Rattle.std.proofs.lemmas.List.{length-take-le}
 use Rattle.std.proofs.lemmas.Int.Digits.{digits_more, digits_value_more}
 use Rattle.std.proofs.lemmas.Str.Parse.{digits_value_short}
-use Rattle.rational_time.specs.TimeText.{IsNumeral, IsNoDigitFirst, WritesTime}
+use Rattle.rational_time.specs.TimeText.{IsNumeral, WritesTime}
 use Rattle.rational_time.specs.declared.ratio.Ratio.{Ratio}
 use Rattle.rational_time.specs.declared.time_text.RatioFault.TheVariants.{Malformed, TooFine}
 use Rattle.rational_time.specs.Fraction.{IsFraction, Exceeds}
 use Rattle.rational_time.specs.TimeText.WritesTime.{whole, quotient, decimal}
-use Rattle.rational_time.specs.private.Front.{Begins}
+use Rattle.rational_time.specs.private.Front.{Begins, IsNoDigitFirst}
 
 -- the digits in front of a text and the rest
 pub record IsSplit (text first rest : List ℕ) : Type 0 where
@@ -90,11 +90,6 @@ WritesTime-positive text n d (quotient top under e p q num den pos) = pos
 WritesTime-positive text n d (decimal top part e p q num den) = rw den (ten_positive (length part))
 
 -- what follows from the parts of a split text that is not read
-pub no_whole : (first rest : List ℕ) (n d : ℕ) → (IsNumeral 18 first → ⊥) → Parts first rest n d → ⊥
-no_whole first rest n d none (alone r p num den) = none p
-no_whole first rest n d none (over under r p q num den pos) = none p
-no_whole first rest n d none (point part r p q num den) = none p
-
 pub no_mark : (first rest tail : List ℕ) (mark n d : ℕ) → rest ≡ mark ∷ tail → mark ≢ 47 → mark ≢ 46 → Parts first rest n d → ⊥
 no_mark first rest tail mark n d e p q (alone r a num den) = absurd cc
 no_mark first rest tail mark n d e p q (over under r a b num den pos) = p cc
@@ -140,20 +135,6 @@ front_of text n d (whole numeral num den) = (digits_value 10 text, [], record { 
 front_of text n d (quotient top under e p q num den pos) = (digits_value 10 top, 47 ∷ under, record { first = top; joined = e; numeral = p; other = lit≤ tt; is = refl })
 front_of text n d (decimal top part e p q num den) = (digits_value 10 top, 46 ∷ part, record { first = top; joined = e; numeral = p; other = lit≤ tt; is = refl })
 
--- a text without a digit in front begins with no numeral
-pub no_front : (most : ℕ) (text : List ℕ) → 10 ≤ digit_value (get_or text 0 0) → (value : ℕ) (rest : List ℕ) → Begins most text value rest → ⊥
-no_front most text big value rest b = first_is text b.first rest b.joined b.numeral big
-  where
-    first_is : (text first rest : List ℕ) → text ≡ first ++ rest → IsNumeral most first → 10 ≤ digit_value (get_or text 0 0) → ⊥
-    first_is text [] rest e p big = absurd (omega (arith, p.some))
-    first_is text (x ∷ first) rest e p big =
-        let head : get_or text 0 0 ≡ x = ap (λ l. get_or l 0 0) e in
-        omega (arith, p.digits.0, subst (λ z. 10 ≤ digit_value z) head big)
-
-pub no_front_of_none : (most : ℕ) (text : List ℕ) → length text ≡ 0 → (value : ℕ) (rest : List ℕ) → Begins most text value rest → ⊥
-no_front_of_none most text none value rest b =
-    omega (arith, b.numeral.some, length-append b.first rest, ap length b.joined, none)
-
 -- the digits in front are at least as many as any digits from the start
 digits_in_front : (k : ℕ) (first rest : List ℕ) → IsNoDigitFirst rest → k ≤ length (first ++ rest) → AllDigits 10 (take k (first ++ rest)) → k ≤ length first
 digits_in_front zero first rest other inside all = omega arith
@@ -167,17 +148,6 @@ long_front most text inside all value rest b =
     let there : most + 1 ≤ length (b.first ++ rest) = subst (λ l. most + 1 ≤ length l) b.joined (omega arith) in
     let digits : AllDigits 10 (take (most + 1) (b.first ++ rest)) = subst (λ l. AllDigits 10 (take (most + 1) l)) b.joined all in
     omega (arith, digits_in_front (most + 1) b.first rest b.other there digits, b.numeral.few)
-
--- a numeral of so many digits in front of a text, and what stands behind them
-pub begins_at : (most : ℕ) (text front rest : List ℕ) (at value : ℕ) → 0 < at → at ≤ most → length front ≡ at → text ≡ front ++ rest → AllDigits 10 front → IsNoDigitFirst rest →
-    value ≡ digits_value 10 front → Begins most text value rest
-begins_at most text front rest at value some few long joined all other v = record {
-  first = front;
-  joined = joined;
-  numeral = record { some = omega arith; few = omega arith; digits = all };
-  other = other;
-  is = v;
-}
 
 -- what is made of the text after a slash is the outcome of the whole text
 pub slash_outcome : (text first rest tail : List ℕ) (top : ℕ) (r : Option (ℕ × ℕ)) → IsSplit text first rest → rest ≡ 47 ∷ tail → IsNumeral 18 first → top ≡ digits_value 10 first →

@@ -1,6 +1,5 @@
 -- Time texts: `n`, `n/d` and `n.f`, and the fraction that each writes.
-use Rattle.std.specs.Prelude.{◌≡◌, ℕ, ◌+◌, ◌*◌, ◌^◌, ◌<◌, ◌≤◌, ◌++◌, List, [], ◌∷◌, length, codes, ⊤}
-use Rattle.std.specs.Char.{digit_value}
+use Rattle.std.specs.Prelude.{◌≡◌, ℕ, ◌+◌, ◌*◌, ◌^◌, ◌<◌, ◌≤◌, ◌++◌, List, length, codes}
 use Rattle.std.specs.Str.Parse.{AllDigits, digits_value}
 
 -- the text is 1 to `most` decimal digits
@@ -16,8 +15,3 @@ pub data WritesTime (text : List ℕ) (n d : ℕ) : Type 0 where
       n ≡ digits_value 10 over → d ≡ digits_value 10 under → 0 < d → WritesTime text n d
   decimal : (over part : List ℕ) → text ≡ over ++ (codes "." ++ part) → IsNumeral 18 over → IsNumeral 9 part →
       n ≡ digits_value 10 over * 10 ^ length part + digits_value 10 part → d ≡ 10 ^ length part → WritesTime text n d
-
--- the text does not begin with a digit
-abbrev pub IsNoDigitFirst : List ℕ → Type 0
-IsNoDigitFirst [] = ⊤
-IsNoDigitFirst (c ∷ cs) = 10 ≤ digit_value c

@@ -27,7 +27,7 @@ pub fn lcm(a: u64, b: u64) -> Option<u64>
     (a / divisor).checked_mul(b)
 }
 
-/// The greatest common divisor of two wide numbers.
+/// The greatest common divisor of two wide numbers. Division of 128 bits is slow, so `gcd` stands beside it.
 pub(crate) fn wide_gcd(a: u128, b: u128) -> u128
     ensures { IsGcd a b result }
 {

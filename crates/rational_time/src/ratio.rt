@@ -28,7 +28,7 @@ impl Ratio {
     }
 }
 
-/// WritesTime `n` where the denominator is 1, else `n/d`.
+/// Writes `n` where the denominator is 1, else `n/d`.
 impl fmt::Display for Ratio {
     ghost use Rattle.rational_time.specs.Fraction.{instant_text};
     ghost use Rattle.std.specs.Prelude.{Some};

@@ -6,15 +6,28 @@ ghost use Rattle.rational_time.specs.private.Front.{Begins};
 
 use crate::fraction::reduced;
 use crate::ratio::Ratio;
+use std::error::Error;
+use std::fmt;
 
 /// Why a text gives no time.
-#[derive(Clone, Copy, PartialEq, Eq)]
+#[derive(Clone, Copy, Debug, PartialEq, Eq)]
 pub enum RatioFault {
     /// The text is none of `n`, `n/d` and `n.f`.
     Malformed,
     /// In lowest terms the numerator is 2^60 or more or the denominator 2^32 or more.
     TooFine,
 }
+
+impl fmt::Display for RatioFault {
+    fn fmt<W: fmt::Write>(&self, f: &mut fmt::Formatter<W>) -> fmt::Result {
+        match self {
+            RatioFault::Malformed => write!(f, "not a time"),
+            RatioFault::TooFine => write!(f, "a time with too large a part in lowest terms"),
+        }
+    }
+}
+
+impl Error for RatioFault {}
 
 /// The time that a text writes: `n`, `n/d` or `n.f`, where n and d are 1 to 18 decimal digits, d is
 /// not zero, and f is 1 to 9 decimal digits.

@@ -5,8 +5,8 @@ ghost use Rattle.class_scopes.specs.Spelled.{spelled};
 ghost use Rattle.scope_names.specs.Scopes as meaning;
 ghost use Rattle.scope_names.specs.private.Tabled.{AreTabled};
 
-use class_scopes::{File, Named, Table, TypeName, declared_in, spelled};
-use mo_parser::{Element, Span};
+use class_scopes::{File, Named, Table, TypeName, declared_in};
+use mo_parser::{Element, Span, spelled};
 use std::alloc::{AllocError, Global};
 
 /// A file, and the components of each class by their names.

@@ -62,7 +62,7 @@ pub fn rem(a: i64, b: i64) -> Result<i64, Fail>
     Ok(a.wrapping_rem(b))
 }
 
-// Whether one of two numbers is below 0 and the other above.
+/// Whether one of two numbers is below 0 and the other above.
 fn are_unlike(a: i64, b: i64) -> bool
     ensures { result ≡ unlike a b }
 {

@@ -3,7 +3,7 @@ ghost use Rattle.sync_values.specs.Relation.{AreAlike, rank, related};
 
 use crate::value::{Rel, Value};
 
-// The place of a value among those of its kind, with false below true.
+/// The place of a value among those of its kind, with false below true.
 fn rank_of(value: Value) -> i64
     ensures { result ≡ rank value }
 {

@@ -7,9 +7,9 @@ ghost use Rattle.parameter_values.specs.private.Givens as givens;
 ghost use Rattle.value_rules.specs.Needs as wanted;
 ghost use Rattle.value_rules.specs.private.Missing as meaning;
 
-use class_scopes::{is_time, spelled};
+use class_scopes::is_time;
 use flat_model::NameKind;
-use mo_parser::{Path, TreeExpr};
+use mo_parser::{Path, TreeExpr, spelled};
 use parameter_values::{Outcome, Parameter, Values};
 use scope_names::names_in;
 use std::alloc::{AllocError, Global};

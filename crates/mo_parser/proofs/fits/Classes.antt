@@ -5,7 +5,8 @@ use Rattle.mo_lexer.specs.declared.token.Word.TheVariants as w
 use Rattle.mo_lexer.specs.declared.token.Sym.TheVariants as s
 use Rattle.mo_parser.specs.declared.tree.ClassDef.{ClassDef}
 use Rattle.mo_parser.specs.declared.grammar.parts.Body.{Body}
-use Rattle.mo_parser.specs.grammar.Kinds.{begins_class, begins_section, is_ident, is_symbol, is_word, visibility_of}
+use Rattle.mo_parser.specs.grammar.Kinds.{is_ident, is_symbol, is_word, visibility_of}
+use Rattle.mo_parser.specs.reading.Starts.{begins_class, begins_section}
 use Rattle.mo_parser.specs.grammar.Classes as rule
 use Rattle.mo_parser.specs.reading.Classes as read
 use Rattle.mo_parser.proofs.rules.Fits.{Fits, fits_as}

@@ -1,24 +1,24 @@
 -- Description strings and annotations.
-use Rattle.std.proofs.Common.{None, Some, inr, ◌<◌, inl, ℕ, zero, suc, List, [], ◌∷◌, refl, ap, arith}
+use Rattle.std.proofs.Common.{None, Some, ◌<◌, inl, ℕ, zero, suc, [], ◌∷◌, refl, arith}
 use Rattle.mo_lexer.specs.declared.token.Token.{Token}
 use Rattle.mo_lexer.specs.declared.token.TokenKind.TheVariants as k
 use Rattle.mo_lexer.specs.declared.token.Word.TheVariants as w
 use Rattle.mo_lexer.specs.declared.token.Sym.TheVariants as s
-use Rattle.mo_parser.specs.grammar.Kinds.{begins_balanced, is_plain, is_symbol, is_text, is_word}
-use Rattle.mo_parser.specs.grammar.Rules.{Rule, ◌>>=◌, dropped, either, gives, many, too_deep, one, over}
+use Rattle.mo_parser.specs.grammar.Kinds.{is_plain, is_symbol, is_text, is_word}
+use Rattle.mo_parser.specs.reading.Starts.{begins_balanced}
+use Rattle.mo_parser.specs.grammar.Rules.{Rule, ◌>>=◌, dropped, either, gives, many, one, over}
 use Rattle.mo_parser.specs.grammar.Comments as rule
-use Rattle.mo_parser.specs.reading.Outcomes.{Outcome, Parser, Deep}
+use Rattle.mo_parser.specs.reading.Outcomes.{Parser}
 use Rattle.mo_parser.specs.reading.Outcomes as reads
 use Rattle.mo_parser.specs.reading.Comments as read
-use Rattle.mo_parser.proofs.rules.Fits.{Fits, Goes_on, Some_of, fits_as}
+use Rattle.mo_parser.proofs.rules.Fits.{Fits, Some_of, fits_as}
 use Rattle.mo_parser.proofs.rules.Kinds.{kw, sy}
 use Rattle.mo_parser.proofs.rules.Gives.{fits_gives}
-use Rattle.mo_parser.proofs.rules.Lists.{Below, front_none, none, swap_same}
+use Rattle.mo_parser.proofs.rules.Levels.{fits_levels}
 use Rattle.mo_parser.proofs.rules.Then.{fits_then}
 use Rattle.mo_parser.proofs.rules.Choose.{fits_choose, fits_unless}
 use Rattle.mo_parser.proofs.rules.Many.{fits_many}
 use Rattle.mo_parser.proofs.fits.Tests.{example, fits_symbol, fits_text, fits_word, tells_symbol, tells_text, tells_word}
-use Rattle.mo_parser.proofs.fits.Nested.{by_suc}
 use Rattle.mo_parser.proofs.fits.Words.{every_other, fits_plain, pieces_start, plains, tells_balanced, tells_plain}
 
 fits_more_text : {n : ℕ} (u : Unit {0}) → Fits (sy s.Plus ∷ []) [] 1 None (λ _. rule.more_text u) (λ _. read.more_text u) n
@@ -77,40 +77,6 @@ some_balanced (suc m) lt =
     let t : Token = example k.Ident in
     (tt, λ c. (t ∷ c, (tt, c, inl (t, c, (t, refl, refl), (refl, refl)), over tt c)))
 
-abbrev deep : List Token → Outcome (Unit {0})
-deep ts = Deep ts
-
 pub fits_balanced : (n : ℕ) → Fits pieces_start pieces_start 1 (Some []) rule.Balanced read.balanced n
-unfolding rule.Balanced read.balanced too_deep
-fits_balanced zero = record {
-  sound = λ t a b h. cc;
-  complete = λ t a b r o. absurd r;
-  first = λ t a b r. absurd r;
-  size = λ t a b r. absurd r;
-  deep_sound = λ a b h. cc;
-  deep_complete = λ a b r. ap deep r;
-  deep_first = λ a b r. inr refl;
-  takes = λ a. none a;
-  local = λ a a' b' s. ap deep (swap_same a a' b' s);
-  deeper = λ m le t a b r. absurd r;
-  below = λ m le a. tt;
-  puts = λ t a b b' r. absurd r;
-  goes = λ a b h m lt. let (t, rest) = some_balanced m lt in (t, λ c. let (a', r) = rest c in (a', a', front_none a b a' h, r));
-  some = some_balanced;
-}
-fits_balanced (suc n) = let f = fits_pieces (fits_balanced n) in record {
-  sound = f.sound;
-  complete = f.complete;
-  first = f.first;
-  size = f.size;
-  deep_sound = f.deep_sound;
-  deep_complete = f.deep_complete;
-  deep_first = λ a b r. elim (f.deep_first a b r) [ inl i ↦ inl i | inr never ↦ absurd never ];
-  takes = f.takes;
-  local = f.local;
-  deeper = λ m le t a b r. by_suc n (λ j. (rule.Balanced j).spells t a b) (λ k l. f.deeper k l t a b r) m le;
-  below = λ m le a. by_suc n (λ j. Below (read.pieces (read.balanced n) a) (read.balanced j a)) (λ k l. f.below k l a) m le;
-  puts = f.puts;
-  goes = λ a b h m lt. by_suc (suc n) (λ j. Goes_on (rule.Balanced j) a b) (λ k l. f.goes a b h k l) m lt;
-  some = some_balanced;
-}
+unfolding rule.Balanced read.balanced
+fits_balanced = fits_levels refl (λ n. refl) (λ a. refl) (λ n a. refl) some_balanced (λ n f. fits_pieces f)

@@ -7,7 +7,8 @@ use Rattle.mo_parser.specs.declared.tree.TreeEq.{TreeEq}
 use Rattle.mo_parser.specs.declared.tree.Causality.TheVariants as causality
 use Rattle.mo_parser.specs.declared.tree.Variability.TheVariants as variability
 use Rattle.mo_parser.specs.declared.grammar.parts.Declared.{Declared}
-use Rattle.mo_parser.specs.grammar.Kinds.{begins_element, begins_equation, begins_simple, causality_of, is_symbol, is_word, variability_of}
+use Rattle.mo_parser.specs.grammar.Kinds.{causality_of, is_symbol, is_word, variability_of}
+use Rattle.mo_parser.specs.reading.Starts.{begins_element, begins_equation, begins_simple}
 use Rattle.mo_parser.specs.grammar.Elements as rule
 use Rattle.mo_parser.specs.grammar.Equations as rule_of
 use Rattle.mo_parser.specs.reading.Elements as read

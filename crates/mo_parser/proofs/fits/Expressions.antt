@@ -3,11 +3,10 @@ use Rattle.std.proofs.Common.{None, Some, ◌++◌, ℕ, is_some, List, [], ◌�
 use Rattle.mo_lexer.specs.declared.token.Word.TheVariants as w
 use Rattle.mo_lexer.specs.declared.token.Sym.TheVariants as s
 use Rattle.mo_parser.specs.declared.tree.TreeExpr.{TreeExpr}
-use Rattle.mo_parser.specs.declared.grammar.parts.Links.{Links}
 use Rattle.mo_parser.specs.declared.grammar.parts.Branches.{Branches}
 use Rattle.mo_parser.specs.grammar.Kinds.{and_of, is_symbol, is_word, literal_of, or_of, product_of, relation_of, sum_of}
 use Rattle.mo_parser.specs.grammar.Rules.{Rule}
-use Rattle.mo_parser.specs.grammar.Trees.{alone, no_branches}
+use Rattle.mo_parser.specs.grammar.Trees.{no_branches}
 use Rattle.mo_parser.specs.grammar.Expressions as rule
 use Rattle.mo_parser.specs.reading.Outcomes.{Parser}
 use Rattle.mo_parser.specs.reading.Expressions as read
@@ -19,6 +18,7 @@ use Rattle.mo_parser.proofs.rules.Choose.{fits_choose, fits_unless}
 use Rattle.mo_parser.proofs.rules.Many.{fits_many}
 use Rattle.mo_parser.proofs.fits.Tests.{fits_symbol, fits_word, tells_symbol, tells_word}
 use Rattle.mo_parser.proofs.fits.Names.{fits_name}
+use Rattle.mo_parser.proofs.fits.Chains.{fits_links}
 use Rattle.mo_parser.proofs.fits.Operators.{fits_and, fits_literal, fits_or, fits_product, fits_relation, fits_sum, literals, products, relations, sums, tells_and, tells_literal, tells_or, tells_product, tells_relation, tells_sum}
 
 -- what begins an operand, a part of a sum, and an expression without and with `if`
@@ -89,19 +89,9 @@ module _ {n : ℕ} {R : ℕ → Rule TreeExpr} {p : ℕ → Parser TreeExpr} (wh
   fits_factor = fits_as primaries after_factor refl refl (fits_then fits_primary (λ base. fits_choose (is_symbol s.Power) (sy s.Power ∷ []) (tells_symbol s.Power)
       (fits_then (fits_symbol s.Power) (λ _. fits_then fits_primary (λ e. fits_gives _) refl) refl) (fits_gives base) refl refl (omega arith)) refl)
 
-  fits_product_link : (l : Links) → Fits products after_factor 1 None (λ k. rule.link product_of (rule.factor (R k)) l) (λ k. read.link product_of (read.factor (p k)) l) n
-  unfolding rule.link read.link
-  fits_product_link l = fits_then fits_product (λ op. fits_then fits_factor (λ e. fits_gives _) refl) refl
-
-  fits_product_links : (first : TreeExpr) → Fits products after_term 0 None (λ k. rule.links product_of (rule.factor (R k)) first) (λ k. read.links product_of (read.factor (p k)) first) n
-  unfolding rule.links read.links
-  fits_product_links first = fits_as products after_term refl refl (fits_choose (read.is_op product_of) products tells_product
-      (fits_then (fits_product_link (alone first)) (λ l. fits_then (fits_many (read.is_op product_of) products tells_product refl (λ l. fits_product_link l) refl refl l) (λ all. fits_gives _) refl) refl)
-      (fits_gives first) refl refl (omega arith))
-
   fits_term : Fits primaries after_term 1 None (λ k. rule.term (R k)) (λ k. read.term (p k)) n
   unfolding rule.term read.term
-  fits_term = fits_as primaries after_term refl refl (fits_then fits_factor (λ e. fits_product_links e) refl)
+  fits_term = fits_as primaries after_term refl refl (fits_then fits_factor (λ e. fits_links product_of tells_product fits_product fits_factor refl refl e) refl)
 
   fits_signed : Fits (sy s.Plus ∷ sy s.Minus ∷ primaries) after_term 1 None (λ k. rule.signed (R k)) (λ k. read.signed (p k)) n
   unfolding rule.signed read.signed
@@ -110,19 +100,9 @@ module _ {n : ℕ} {R : ℕ → Rule TreeExpr} {p : ℕ → Parser TreeExpr} (wh
       (fits_choose (is_symbol s.Minus) (sy s.Minus ∷ []) (tells_symbol s.Minus)
       (fits_then (fits_symbol s.Minus) (λ sign. fits_then fits_term (λ e. fits_gives _) refl) refl) fits_term refl refl (omega arith)) refl refl (omega arith))
 
-  fits_sum_link : (l : Links) → Fits sums after_term 1 None (λ k. rule.link sum_of (rule.term (R k)) l) (λ k. read.link sum_of (read.term (p k)) l) n
-  unfolding rule.link read.link
-  fits_sum_link l = fits_then fits_sum (λ op. fits_then fits_term (λ e. fits_gives _) refl) refl
-
-  fits_sum_links : (first : TreeExpr) → Fits sums after_arith 0 None (λ k. rule.links sum_of (rule.term (R k)) first) (λ k. read.links sum_of (read.term (p k)) first) n
-  unfolding rule.links read.links
-  fits_sum_links first = fits_as sums after_arith refl refl (fits_choose (read.is_op sum_of) sums tells_sum
-      (fits_then (fits_sum_link (alone first)) (λ l. fits_then (fits_many (read.is_op sum_of) sums tells_sum refl (λ l. fits_sum_link l) refl refl l) (λ all. fits_gives _) refl) refl)
-      (fits_gives first) refl refl (omega arith))
-
   fits_arith : Fits (sy s.Plus ∷ sy s.Minus ∷ primaries) after_arith 1 None (λ k. rule.arith (R k)) (λ k. read.arith (p k)) n
   unfolding rule.arith read.arith
-  fits_arith = fits_as (sy s.Plus ∷ sy s.Minus ∷ primaries) after_arith refl refl (fits_then fits_signed (λ e. fits_sum_links e) refl)
+  fits_arith = fits_as (sy s.Plus ∷ sy s.Minus ∷ primaries) after_arith refl refl (fits_then fits_signed (λ e. fits_links sum_of tells_sum fits_sum fits_term refl refl e) refl)
 
   fits_rel : Fits (sy s.Plus ∷ sy s.Minus ∷ primaries) after_rel 1 None (λ k. rule.rel (R k)) (λ k. read.rel (p k)) n
   unfolding rule.rel read.rel
@@ -134,33 +114,13 @@ module _ {n : ℕ} {R : ℕ → Rule TreeExpr} {p : ℕ → Parser TreeExpr} (wh
   fits_lit = fits_as simples after_rel refl refl (fits_choose (is_word w.KwNot) (kw w.KwNot ∷ []) (tells_word w.KwNot)
       (fits_then (fits_word w.KwNot) (λ x. fits_then fits_rel (λ e. fits_gives _) refl) refl) fits_rel refl refl (omega arith))
 
-  fits_and_link : (l : Links) → Fits (kw w.KwAnd ∷ []) after_rel 1 None (λ k. rule.link and_of (rule.lit (R k)) l) (λ k. read.link and_of (read.lit (p k)) l) n
-  unfolding rule.link read.link
-  fits_and_link l = fits_then fits_and (λ op. fits_then fits_lit (λ e. fits_gives _) refl) refl
-
-  fits_and_links : (first : TreeExpr) → Fits (kw w.KwAnd ∷ []) after_conj 0 None (λ k. rule.links and_of (rule.lit (R k)) first) (λ k. read.links and_of (read.lit (p k)) first) n
-  unfolding rule.links read.links
-  fits_and_links first = fits_as (kw w.KwAnd ∷ []) after_conj refl refl (fits_choose (read.is_op and_of) (kw w.KwAnd ∷ []) tells_and
-      (fits_then (fits_and_link (alone first)) (λ l. fits_then (fits_many (read.is_op and_of) (kw w.KwAnd ∷ []) tells_and refl (λ l. fits_and_link l) refl refl l) (λ all. fits_gives _) refl) refl)
-      (fits_gives first) refl refl (omega arith))
-
   fits_conj : Fits simples after_conj 1 None (λ k. rule.conj (R k)) (λ k. read.conj (p k)) n
   unfolding rule.conj read.conj
-  fits_conj = fits_as simples after_conj refl refl (fits_then fits_lit (λ e. fits_and_links e) refl)
-
-  fits_or_link : (l : Links) → Fits (kw w.KwOr ∷ []) after_conj 1 None (λ k. rule.link or_of (rule.conj (R k)) l) (λ k. read.link or_of (read.conj (p k)) l) n
-  unfolding rule.link read.link
-  fits_or_link l = fits_then fits_or (λ op. fits_then fits_conj (λ e. fits_gives _) refl) refl
-
-  fits_or_links : (first : TreeExpr) → Fits (kw w.KwOr ∷ []) after_expr 0 None (λ k. rule.links or_of (rule.conj (R k)) first) (λ k. read.links or_of (read.conj (p k)) first) n
-  unfolding rule.links read.links
-  fits_or_links first = fits_as (kw w.KwOr ∷ []) after_expr refl refl (fits_choose (read.is_op or_of) (kw w.KwOr ∷ []) tells_or
-      (fits_then (fits_or_link (alone first)) (λ l. fits_then (fits_many (read.is_op or_of) (kw w.KwOr ∷ []) tells_or refl (λ l. fits_or_link l) refl refl l) (λ all. fits_gives _) refl) refl)
-      (fits_gives first) refl refl (omega arith))
+  fits_conj = fits_as simples after_conj refl refl (fits_then fits_lit (λ e. fits_links and_of tells_and fits_and fits_lit refl refl e) refl)
 
   pub fits_simple : Fits simples after_expr 1 None (λ k. rule.simple (R k)) (λ k. read.simple (p k)) n
   unfolding rule.simple read.simple
-  fits_simple = fits_as simples after_expr refl refl (fits_then fits_conj (λ e. fits_or_links e) refl)
+  fits_simple = fits_as simples after_expr refl refl (fits_then fits_conj (λ e. fits_links or_of tells_or fits_or fits_conj refl refl e) refl)
 
   fits_consequence : Fits (kw w.KwThen ∷ []) after_expr 1 None (λ k. rule.consequence (R k)) (λ k. read.consequence (p k)) n
   unfolding rule.consequence read.consequence

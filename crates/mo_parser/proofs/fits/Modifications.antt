@@ -1,30 +1,30 @@
 -- Modifications.
-use Rattle.std.proofs.Common.{Some, inl, ◌<◌, inr, ℕ, zero, suc, List, [], ◌∷◌, None, refl, ap, arith}
+use Rattle.std.proofs.Common.{Some, ◌<◌, inr, ℕ, zero, suc, List, [], ◌∷◌, None, refl, arith}
 use Rattle.mo_lexer.specs.declared.token.Token.{Token}
 use Rattle.mo_lexer.specs.declared.token.TokenKind.TheVariants as k
 use Rattle.mo_lexer.specs.declared.token.Sym.TheVariants as s
 use Rattle.mo_parser.specs.declared.tree.Arg.{Arg}
 use Rattle.mo_parser.specs.declared.grammar.parts.Modification.{Modification}
 use Rattle.mo_parser.specs.grammar.Kinds.{is_ident, is_symbol}
-use Rattle.mo_parser.specs.grammar.Rules.{Rule, ◌>>=◌, either, gives, many, too_deep, one, optional, over}
+use Rattle.mo_parser.specs.grammar.Rules.{Rule, ◌>>=◌, either, gives, many, one, optional, over}
 use Rattle.mo_parser.specs.grammar.Names.{ident, name, named}
 use Rattle.mo_parser.specs.grammar.Expressions.{Expr}
 use Rattle.mo_parser.specs.grammar.Modifications as rule
-use Rattle.mo_parser.specs.reading.Outcomes.{Outcome, Parser, Deep}
+use Rattle.mo_parser.specs.reading.Outcomes.{Parser}
 use Rattle.mo_parser.specs.reading.Outcomes as reads
 use Rattle.mo_parser.specs.reading.Expressions.{expr}
 use Rattle.mo_parser.specs.reading.Modifications as read
-use Rattle.mo_parser.proofs.rules.Fits.{Fits, Goes_on, Some_of, fits_as}
+use Rattle.mo_parser.proofs.rules.Fits.{Fits, Some_of, fits_as}
 use Rattle.mo_parser.proofs.rules.Kinds.{sy}
 use Rattle.mo_parser.proofs.rules.Gives.{fits_gives}
-use Rattle.mo_parser.proofs.rules.Lists.{Below, front_none, none, swap_same}
+use Rattle.mo_parser.proofs.rules.Levels.{fits_levels}
 use Rattle.mo_parser.proofs.rules.Then.{fits_then}
 use Rattle.mo_parser.proofs.rules.Choose.{fits_choose, fits_unless}
 use Rattle.mo_parser.proofs.rules.Many.{fits_many}
 use Rattle.mo_parser.proofs.fits.Tests.{example, fits_symbol, tells_symbol}
 use Rattle.mo_parser.proofs.fits.Names.{fits_name}
 use Rattle.mo_parser.proofs.fits.Expressions.{after_expr, fits_level}
-use Rattle.mo_parser.proofs.fits.Nested.{by_suc, fits_expr}
+use Rattle.mo_parser.proofs.fits.Nested.{fits_expr}
 use Rattle.mo_parser.proofs.fits.Comments.{fits_some_texts}
 
 abbrev pub after_modification : List ℕ
@@ -77,40 +77,6 @@ some_args (suc m) lt =
     let t : Token = example k.Ident in let none : Modification = record { args = []; binding = None } in let a : Arg = rule.argument_of (named t) none in
     (a ∷ [], λ c. (t ∷ c, (a, c, (named t, c, (t, c, (t, refl, refl), over (named t) c), (none, c, inr (None, c, inr (refl, refl), (refl, refl)), (tt, c, inr (refl, refl), (refl, refl)))), over (a ∷ []) c)))
 
-abbrev deep : List Token → Outcome (List Arg)
-deep ts = Deep ts
-
 pub fits_args : (n : ℕ) → Fits (0 ∷ []) after_args 1 (Some []) rule.Args read.args n
-unfolding rule.Args read.args too_deep
-fits_args zero = record {
-  sound = λ t a b h. cc;
-  complete = λ t a b r o. absurd r;
-  first = λ t a b r. absurd r;
-  size = λ t a b r. absurd r;
-  deep_sound = λ a b h. cc;
-  deep_complete = λ a b r. ap deep r;
-  deep_first = λ a b r. inr refl;
-  takes = λ a. none a;
-  local = λ a a' b' s. ap deep (swap_same a a' b' s);
-  deeper = λ m le t a b r. absurd r;
-  below = λ m le a. tt;
-  puts = λ t a b b' r. absurd r;
-  goes = λ a b h m lt. let (t, rest) = some_args m lt in (t, λ c. let (a', r) = rest c in (a', a', front_none a b a' h, r));
-  some = some_args;
-}
-fits_args (suc n) = let f = fits_arguments (fits_args n) in record {
-  sound = f.sound;
-  complete = f.complete;
-  first = f.first;
-  size = f.size;
-  deep_sound = f.deep_sound;
-  deep_complete = f.deep_complete;
-  deep_first = λ a b r. elim (f.deep_first a b r) [ inl i ↦ inl i | inr never ↦ absurd never ];
-  takes = f.takes;
-  local = f.local;
-  deeper = λ m le t a b r. by_suc n (λ j. (rule.Args j).spells t a b) (λ k l. f.deeper k l t a b r) m le;
-  below = λ m le a. by_suc n (λ j. Below (read.arguments (expr n) (read.args n) a) (read.args j a)) (λ k l. f.below k l a) m le;
-  puts = f.puts;
-  goes = λ a b h m lt. by_suc (suc n) (λ j. Goes_on (rule.Args j) a b) (λ k l. f.goes a b h k l) m lt;
-  some = some_args;
-}
+unfolding rule.Args read.args
+fits_args = fits_levels refl (λ n. refl) (λ a. refl) (λ n a. refl) some_args (λ n f. fits_arguments f)

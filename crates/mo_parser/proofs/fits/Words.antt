@@ -10,7 +10,10 @@ use Rattle.mo_lexer.specs.declared.token.Sym.TheVariants as s
 use Rattle.mo_parser.specs.declared.tree.Variability.TheVariants as variability
 use Rattle.mo_parser.specs.declared.tree.Causality.TheVariants as causality
 use Rattle.mo_parser.specs.declared.tree.ClassKind.TheVariants as class
-use Rattle.mo_parser.specs.grammar.Kinds.{balanced_by, begins_balanced, begins_class, begins_element, begins_equation, begins_section, begins_simple, causality_by, causality_of, class_by, class_of, class_start_by, element_by, equation_by, is_ident, is_plain, plain_by, same_name, section_by, simple_by, spelling, variability_by, variability_of, visibility_by, visibility_of, when}
+use Rattle.mo_parser.specs.grammar.Kinds.{causality_by, causality_of, class_by, class_of, is_ident, is_plain, plain_by, variability_by, variability_of, visibility_by, visibility_of, when}
+use Rattle.mo_parser.specs.reading.Starts.{balanced_by, begins_balanced, begins_class, begins_element, begins_equation, begins_section, begins_simple, class_start_by, element_by, equation_by, section_by, simple_by}
+use Rattle.mo_parser.specs.grammar.Names.{same_name, span_of}
+use Rattle.mo_parser.specs.grammar.Spans.{spelled}
 use Rattle.mo_parser.specs.grammar.Rules as rule
 use Rattle.mo_parser.specs.grammar.Classes as rule_of
 use Rattle.mo_parser.specs.reading.Outcomes as read
@@ -182,7 +185,7 @@ unfolding visibility_of example
 fits_visibility = fits_one visibility_of visibilities (valued visibility_of visibilities tells_visibility) refl (example (k.Keyword w.KwPublic)) tt refl
 
 -- the name of a class once more
-same_self : (text : List ℕ) (x y : Token) → spelling text x ≡ spelling text y → same_name text x y ≡ true
+same_self : (text : List ℕ) (x y : Token) → spelled text (span_of x) ≡ spelled text (span_of y) → same_name text x y ≡ true
 unfolding same_name
 same_self text x y e = bytes_same _ _ e
   where
@@ -197,7 +200,7 @@ own_taken text x t y h = go (is_ident t) refl h
     go false e h = cc
 
 pub fits_same_ident : {n : ℕ} (text : List ℕ) (x : Token) → Fits (0 ∷ []) [] 1 None (λ _. rule_of.same_ident text x) (λ _. read_of.same_ident text x) n
-unfolding rule_of.same_ident read_of.same_ident is_ident spelling
+unfolding rule_of.same_ident read_of.same_ident is_ident
 fits_same_ident text x =
     let y : Token = record { kind = k.Ident; at = x.at; end = x.end } in
     let same : same_name text x y ≡ true = same_self text x y refl in

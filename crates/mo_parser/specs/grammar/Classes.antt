@@ -11,8 +11,8 @@ use Rattle.mo_parser.specs.declared.tree.ClassKind.TheVariants as kind
 use Rattle.mo_parser.specs.declared.tree.Short.{Short}
 use Rattle.mo_parser.specs.declared.grammar.parts.Body.{Body}
 use Rattle.mo_parser.specs.grammar.Rules.{Rule, ◌>>=◌, ◌>>◌, gives, one, either, many, dropped}
-use Rattle.mo_parser.specs.grammar.Kinds.{class_of, is_ident, same_name, visibility_of, when}
-use Rattle.mo_parser.specs.grammar.Names.{symbol, word, ident, name, span_of}
+use Rattle.mo_parser.specs.grammar.Kinds.{class_of, is_ident, visibility_of, when}
+use Rattle.mo_parser.specs.grammar.Names.{symbol, word, ident, name, same_name, span_of}
 use Rattle.mo_parser.specs.grammar.Modifications.{Args, in_brackets}
 use Rattle.mo_parser.specs.grammar.Comments.{Balanced, comment, note, texts}
 use Rattle.mo_parser.specs.grammar.Elements.{elements, some_causality}

@@ -10,8 +10,10 @@ use Rattle.mo_parser.specs.declared.tree.ClassKind.TheVariants as kind
 use Rattle.mo_parser.specs.declared.tree.Short.{Short}
 use Rattle.mo_parser.specs.declared.grammar.parts.Body.{Body}
 use Rattle.mo_parser.specs.reading.Outcomes.{Parser, ◌>>=◌, ◌>>◌, gives, one, choose, many, dropped}
-use Rattle.mo_parser.specs.grammar.Kinds.{begins_class, begins_section, class_of, is_ident, is_symbol, is_text, is_word, same_name, visibility_of, when}
+use Rattle.mo_parser.specs.grammar.Kinds.{class_of, is_ident, is_symbol, is_text, is_word, visibility_of, when}
+use Rattle.mo_parser.specs.reading.Starts.{begins_class, begins_section}
 use Rattle.mo_parser.specs.grammar.Classes.{bodied, shortened}
+use Rattle.mo_parser.specs.grammar.Names.{same_name}
 use Rattle.mo_parser.specs.reading.Names.{symbol, word, ident, name}
 use Rattle.mo_parser.specs.reading.Modifications.{args, in_brackets}
 use Rattle.mo_parser.specs.reading.Comments.{balanced, comment, note, texts}

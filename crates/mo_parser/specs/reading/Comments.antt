@@ -4,7 +4,8 @@ use Rattle.mo_lexer.specs.declared.token.Sym.{Sym}
 use Rattle.mo_lexer.specs.declared.token.Sym.TheVariants as s
 use Rattle.mo_lexer.specs.declared.token.Word.TheVariants as w
 use Rattle.mo_parser.specs.reading.Outcomes.{Parser, Deep, ◌>>=◌, ◌>>◌, gives, one, choose, unless, many, dropped}
-use Rattle.mo_parser.specs.grammar.Kinds.{begins_balanced, is_plain, is_symbol, is_text, is_word, when}
+use Rattle.mo_parser.specs.grammar.Kinds.{is_plain, is_symbol, is_text, is_word, when}
+use Rattle.mo_parser.specs.reading.Starts.{begins_balanced}
 use Rattle.mo_parser.specs.reading.Names.{symbol, word, text}
 
 unfoldable pub more_text : Unit {0} → Parser (Unit {0})

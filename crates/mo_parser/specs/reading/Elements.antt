@@ -8,7 +8,8 @@ use Rattle.mo_parser.specs.declared.tree.Causality.{Causality}
 use Rattle.mo_parser.specs.declared.tree.Causality.TheVariants as causality
 use Rattle.mo_parser.specs.declared.grammar.parts.Declared.{Declared}
 use Rattle.mo_parser.specs.reading.Outcomes.{Parser, ◌>>=◌, ◌>>◌, gives, one, choose, many}
-use Rattle.mo_parser.specs.grammar.Kinds.{begins_element, causality_of, is_symbol, variability_of}
+use Rattle.mo_parser.specs.grammar.Kinds.{causality_of, is_symbol, variability_of}
+use Rattle.mo_parser.specs.reading.Starts.{begins_element}
 use Rattle.mo_parser.specs.grammar.Elements.{element_of}
 use Rattle.mo_parser.specs.reading.Names.{symbol, ident, name}
 use Rattle.mo_parser.specs.reading.Expressions.{expr}

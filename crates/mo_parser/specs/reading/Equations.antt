@@ -6,7 +6,8 @@ use Rattle.mo_parser.specs.declared.tree.TreeEq.{TreeEq}
 use Rattle.mo_parser.specs.declared.tree.TreeExpr.{TreeExpr}
 use Rattle.mo_parser.specs.declared.tree.TreeEq.TheVariants as q
 use Rattle.mo_parser.specs.reading.Outcomes.{Parser, ◌>>=◌, ◌>>◌, gives, choose, many}
-use Rattle.mo_parser.specs.grammar.Kinds.{begins_equation, begins_simple, is_word}
+use Rattle.mo_parser.specs.grammar.Kinds.{is_word}
+use Rattle.mo_parser.specs.reading.Starts.{begins_equation, begins_simple}
 use Rattle.mo_parser.specs.reading.Names.{symbol, word, name}
 use Rattle.mo_parser.specs.reading.Expressions.{expr, level, simple}
 use Rattle.mo_parser.specs.reading.Comments.{balanced, comment}

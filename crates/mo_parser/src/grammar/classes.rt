@@ -2,23 +2,26 @@
 ghost use Rattle.std.specs.Prelude.{◌≡◌, length};
 ghost use Rattle.mo_lexer.specs.declared.token.Word.TheVariants as w;
 ghost use Rattle.mo_parser.specs.grammar.Kinds as kinds;
+ghost use Rattle.mo_parser.specs.reading.Starts as starts;
 ghost use Rattle.mo_parser.specs.reading.Outcomes.{Reads, dropped, many, one};
 ghost use Rattle.mo_parser.specs.reading.Classes as spec;
 
 use super::comments::{comment, note, some_texts};
-use super::elements::{Reader, some_causality};
+use super::elements::some_causality;
 use super::kinds::{
-    begins_class, begins_section, class_of, is_ident, is_symbol, is_word, same_name, visibility_of,
+    begins_class, begins_section, class_of, is_ident, is_symbol, is_word, visibility_of,
 };
 use super::modifications::in_brackets;
-use super::names::{Named, ident, name, span_of, symbol, word};
+use super::names::{Named, ident, name, same_name, span_of, symbol, word};
 use super::parts::Body;
+use super::reader::Reader;
 use super::tokens::{Halt, Tokens};
 use crate::tree::{Arg, ClassDef, ClassKind, Short, Tree};
 use mo_lexer::{Sym, Token, Word};
 use std::alloc::Global;
 use sync_values::List;
 
+/// `"within" [ name ] ";"`
 #[tactic(auto, unfolding(crate::specs::reading::Classes::within))]
 fn within(alloc: Global, tokens: &mut Tokens<'_>) -> Result<(), Halt>
     ensures { Reads (spec.within tokens.old) result tokens.new }
@@ -31,6 +34,7 @@ fn within(alloc: Global, tokens: &mut Tokens<'_>) -> Result<(), Halt>
     Ok(())
 }
 
+/// `[ "within" [ name ] ";" ]`
 fn some_within(alloc: Global, tokens: &mut Tokens<'_>) -> Result<(), Halt>
     ensures { Reads (dropped (kinds.is_word w.KwWithin) spec.within tokens.old) result tokens.new }
 {
@@ -40,6 +44,7 @@ fn some_within(alloc: Global, tokens: &mut Tokens<'_>) -> Result<(), Halt>
     Ok(())
 }
 
+/// An `Ident` that is spelled as the class's own.
 #[tactic(auto, unfolding(crate::specs::reading::Classes::same_ident))]
 fn same_ident(text: &[u8], tokens: &mut Tokens<'_>, own: Token) -> Result<Token, Halt>
     ensures { Reads (spec.same_ident text.now own tokens.old) result tokens.new }
@@ -52,7 +57,7 @@ fn same_ident(text: &[u8], tokens: &mut Tokens<'_>, own: Token) -> Result<Token,
     Ok(next)
 }
 
-// The first word of a class that is no connector.
+/// The first word of a class that is no connector.
 fn class_kind(tokens: &mut Tokens<'_>) -> Result<ClassKind, Halt>
     ensures { Reads (one kinds.class_of tokens.old) result tokens.new }
 {
@@ -63,7 +68,7 @@ fn class_kind(tokens: &mut Tokens<'_>) -> Result<ClassKind, Halt>
     Ok(found)
 }
 
-// The word before further elements.
+/// The word before further elements.
 fn visibility(tokens: &mut Tokens<'_>) -> Result<(), Halt>
     ensures { Reads (one kinds.visibility_of tokens.old) result tokens.new }
 {
@@ -75,6 +80,7 @@ fn visibility(tokens: &mut Tokens<'_>) -> Result<(), Halt>
 }
 
 impl Reader {
+    /// `("public"|"protected") { element } | "equation" { equation }`
     #[tactic(auto, unfolding(crate::specs::reading::Classes::section))]
     fn section(&self, tokens: &mut Tokens<'_>, body: Body) -> Result<Body, Halt>
         ensures { Reads (spec.section self.now.depth body tokens.old) result tokens.new }
@@ -99,9 +105,10 @@ impl Reader {
         })
     }
 
+    /// `{ section }`
     #[tactic(auto, unfolding(crate::specs::reading::Outcomes::turns))]
     fn sections(&self, tokens: &mut Tokens<'_>, mut body: Body) -> Result<Body, Halt>
-        ensures { Reads (many kinds.begins_section (spec.section self.now.depth) body tokens.old) result tokens.new }
+        ensures { Reads (many starts.begins_section (spec.section self.now.depth) body tokens.old) result tokens.new }
     {
         for _turn in 0..tokens.count() {
             if !begins_section(tokens.peek()) {
@@ -112,6 +119,7 @@ impl Reader {
         Ok(body)
     }
 
+    /// `note ";"`
     #[tactic(auto, unfolding(crate::specs::reading::Classes::last_note))]
     fn last_note(&self, tokens: &mut Tokens<'_>) -> Result<(), Halt>
         ensures { Reads (spec.last_note self.now.depth tokens.old) result tokens.new }
@@ -121,6 +129,7 @@ impl Reader {
         Ok(())
     }
 
+    /// `[ note ";" ] "end" Ident`, with the class's own `Ident`
     #[tactic(auto, unfolding(crate::specs::reading::Classes::ending))]
     fn ending(&self, text: &[u8], tokens: &mut Tokens<'_>, own: Token) -> Result<(), Halt>
         ensures { Reads (spec.ending text.now self.now.depth own tokens.old) result tokens.new }
@@ -133,6 +142,7 @@ impl Reader {
         Ok(())
     }
 
+    /// `[ texts ] { element } { section } [ note ";" ] "end" Ident`
     #[tactic(auto, unfolding(crate::specs::reading::Classes::long))]
     fn long(&self, text: &[u8], tokens: &mut Tokens<'_>, own: Token) -> Result<Body, Halt>
         ensures { Reads (spec.long text.now self.now.depth own tokens.old) result tokens.new }
@@ -147,6 +157,7 @@ impl Reader {
         self.ending(text, tokens, own).and(Ok(body))
     }
 
+    /// `[ texts ] { element } [ note ";" ] "end" Ident`
     #[tactic(auto, unfolding(crate::specs::reading::Classes::plain))]
     fn plain(&self, text: &[u8], tokens: &mut Tokens<'_>, own: Token) -> Result<Body, Halt>
         ensures { Reads (spec.plain text.now self.now.depth own tokens.old) result tokens.new }
@@ -160,6 +171,7 @@ impl Reader {
         })
     }
 
+    /// `[ "(" [ args ] ")" ]`
     #[tactic(auto, unfolding(crate::specs::reading::Classes::short_args))]
     fn short_args(&self, tokens: &mut Tokens<'_>) -> Result<List<Arg>, Halt>
         ensures { Reads (spec.short_args self.now.depth tokens.old) result tokens.new }
@@ -171,6 +183,7 @@ impl Reader {
         in_brackets(self.alloc, tokens, self.depth)
     }
 
+    /// `"=" [ "input"|"output" ] name [ "(" [ args ] ")" ] comment`
     #[tactic(auto, unfolding(crate::specs::reading::Classes::short))]
     fn short(&self, tokens: &mut Tokens<'_>) -> Result<Short, Halt>
         ensures { Reads (spec.short self.now.depth tokens.old) result tokens.new }
@@ -186,6 +199,7 @@ impl Reader {
         }))
     }
 
+    /// `("model"|"block"|"class") Ident long`
     #[tactic(auto, unfolding(crate::specs::reading::Classes::long_class))]
     fn long_class(&self, text: &[u8], tokens: &mut Tokens<'_>) -> Result<ClassDef, Halt>
         ensures { Reads (spec.long_class text.now self.now.depth tokens.old) result tokens.new }
@@ -205,6 +219,7 @@ impl Reader {
         })
     }
 
+    /// `"connector" Ident ( plain | "=" short )`
     #[tactic(auto, unfolding(crate::specs::reading::Classes::connector))]
     fn connector(&self, text: &[u8], tokens: &mut Tokens<'_>) -> Result<ClassDef, Halt>
         ensures { Reads (spec.connector text.now self.now.depth tokens.old) result tokens.new }
@@ -234,6 +249,7 @@ impl Reader {
         })
     }
 
+    /// `long_class | connector`
     #[tactic(auto, unfolding(crate::specs::reading::Classes::any_class))]
     fn any_class(&self, text: &[u8], tokens: &mut Tokens<'_>) -> Result<ClassDef, Halt>
         ensures { Reads (spec.any_class text.now self.now.depth tokens.old) result tokens.new }
@@ -245,6 +261,7 @@ impl Reader {
         }
     }
 
+    /// `class ";"`
     #[tactic(auto, unfolding(crate::specs::reading::Classes::class_line))]
     fn class_line(
         &self,
@@ -258,6 +275,7 @@ impl Reader {
         symbol(tokens, Sym::Semicolon).and(Ok(all))
     }
 
+    /// `{ class ";" }`
     #[tactic(auto, unfolding(crate::specs::reading::Outcomes::turns))]
     fn class_lines(
         &self,
@@ -265,7 +283,7 @@ impl Reader {
         tokens: &mut Tokens<'_>,
         mut all: List<ClassDef>,
     ) -> Result<List<ClassDef>, Halt>
-        ensures { Reads (many kinds.begins_class (spec.class_line text.now self.now.depth) all tokens.old) result tokens.new }
+        ensures { Reads (many starts.begins_class (spec.class_line text.now self.now.depth) all tokens.old) result tokens.new }
     {
         for _turn in 0..tokens.count() {
             if !begins_class(tokens.peek()) {

@@ -2,6 +2,7 @@
 ghost use Rattle.std.specs.Prelude.{◌≡◌, length};
 ghost use Rattle.mo_lexer.specs.declared.token.Sym.TheVariants as s;
 ghost use Rattle.mo_parser.specs.grammar.Kinds as kinds;
+ghost use Rattle.mo_parser.specs.reading.Starts as starts;
 ghost use Rattle.mo_parser.specs.reading.Outcomes.{Reads, dropped, many};
 ghost use Rattle.mo_parser.specs.reading.Comments as spec;
 ghost use Rattle.mo_parser.specs.reading.Nests.{NestsPairs};
@@ -11,6 +12,7 @@ use super::names::{symbol, text, word};
 use super::tokens::{Halt, Tokens};
 use mo_lexer::{Sym, Word};
 
+/// `"+" Text`
 #[tactic(auto, unfolding(crate::specs::reading::Comments::more_text))]
 fn more_text(tokens: &mut Tokens<'_>) -> Result<(), Halt>
     ensures { Reads (spec.more_text tt tokens.old) result tokens.new }
@@ -20,6 +22,7 @@ fn more_text(tokens: &mut Tokens<'_>) -> Result<(), Halt>
     Ok(())
 }
 
+/// `{ "+" Text }`
 #[tactic(auto, unfolding(crate::specs::reading::Outcomes::turns))]
 fn more_texts(tokens: &mut Tokens<'_>) -> Result<(), Halt>
     ensures { Reads (many (kinds.is_symbol s.Plus) spec.more_text tt tokens.old) result tokens.new }
@@ -33,6 +36,7 @@ fn more_texts(tokens: &mut Tokens<'_>) -> Result<(), Halt>
     Ok(())
 }
 
+/// `Text { "+" Text }`
 #[tactic(auto, unfolding(crate::specs::reading::Comments::texts))]
 fn texts(tokens: &mut Tokens<'_>) -> Result<(), Halt>
     ensures { Reads (spec.texts tokens.old) result tokens.new }
@@ -51,6 +55,7 @@ pub fn some_texts(tokens: &mut Tokens<'_>) -> Result<(), Halt>
     Ok(())
 }
 
+/// A token that is no bracket and not the end.
 #[tactic(auto, unfolding(crate::specs::reading::Comments::plain))]
 fn plain(tokens: &mut Tokens<'_>) -> Result<(), Halt>
     ensures { Reads (spec.plain tokens.old) result tokens.new }
@@ -71,6 +76,7 @@ pub struct Pairs<F> {
 }
 
 impl<F: Fn(&mut Tokens<'_>, usize) -> Result<(), Halt>> Pairs<F> {
+    /// The tokens in a bracket, one level deeper.
     fn nested(&self, tokens: &mut Tokens<'_>) -> Result<(), Halt>
         requires { NestsPairs self.now.depth (F.pre self.now.balanced) (F.post self.now.balanced) }
         ensures { Reads (spec.balanced self.now.depth tokens.old) result tokens.new }
@@ -78,6 +84,7 @@ impl<F: Fn(&mut Tokens<'_>, usize) -> Result<(), Halt>> Pairs<F> {
         (self.balanced)(tokens, self.depth)
     }
 
+    /// `[ pieces ]` behind an opening bracket, and the closing one
     #[tactic(auto, unfolding(crate::specs::reading::Comments::in_pair))]
     fn in_pair(&self, tokens: &mut Tokens<'_>, close: Sym) -> Result<(), Halt>
         requires { NestsPairs self.now.depth (F.pre self.now.balanced) (F.post self.now.balanced) }
@@ -90,6 +97,7 @@ impl<F: Fn(&mut Tokens<'_>, usize) -> Result<(), Halt>> Pairs<F> {
         Ok(())
     }
 
+    /// A token that is no bracket, or a pair of brackets.
     #[tactic(auto, unfolding(crate::specs::reading::Comments::piece))]
     fn piece(&self, tokens: &mut Tokens<'_>) -> Result<(), Halt>
         requires { NestsPairs self.now.depth (F.pre self.now.balanced) (F.post self.now.balanced) }
@@ -111,10 +119,11 @@ impl<F: Fn(&mut Tokens<'_>, usize) -> Result<(), Halt>> Pairs<F> {
         self.in_pair(tokens, Sym::SquareClose)
     }
 
+    /// `{ piece }`
     #[tactic(auto, unfolding(crate::specs::reading::Outcomes::turns))]
     fn more_pieces(&self, tokens: &mut Tokens<'_>) -> Result<(), Halt>
         requires { NestsPairs self.now.depth (F.pre self.now.balanced) (F.post self.now.balanced) }
-        ensures { Reads (many kinds.begins_balanced (spec.piece (spec.balanced self.now.depth)) tt tokens.old) result tokens.new }
+        ensures { Reads (many starts.begins_balanced (spec.piece (spec.balanced self.now.depth)) tt tokens.old) result tokens.new }
     {
         for _turn in 0..tokens.count() {
             if !begins_balanced(tokens.peek()) {
@@ -125,6 +134,7 @@ impl<F: Fn(&mut Tokens<'_>, usize) -> Result<(), Halt>> Pairs<F> {
         Ok(())
     }
 
+    /// `piece { piece }`
     #[tactic(auto, unfolding(crate::specs::reading::Comments::pieces))]
     fn pieces(&self, tokens: &mut Tokens<'_>) -> Result<(), Halt>
         requires { NestsPairs self.now.depth (F.pre self.now.balanced) (F.post self.now.balanced) }
@@ -134,6 +144,7 @@ impl<F: Fn(&mut Tokens<'_>, usize) -> Result<(), Halt>> Pairs<F> {
         self.more_pieces(tokens)
     }
 
+    /// `"annotation" "(" [ pieces ] ")"`
     #[tactic(auto, unfolding(crate::specs::reading::Comments::note))]
     fn note(&self, tokens: &mut Tokens<'_>) -> Result<(), Halt>
         requires { NestsPairs self.now.depth (F.pre self.now.balanced) (F.post self.now.balanced) }

@@ -11,12 +11,14 @@ use super::kinds::{begins_element, causality_of, is_symbol, variability_of};
 use super::modifications::modification;
 use super::names::{Named, ident, name, span_of, symbol};
 use super::parts::{Declared, Modification};
+use super::reader::Reader;
 use super::tokens::{Halt, Tokens};
 use crate::tree::{Causality, Element, Path, Variability};
 use mo_lexer::{Sym, Token};
 use std::alloc::Global;
 use sync_values::List;
 
+/// `[ "parameter"|"constant"|"discrete" ]`
 #[tactic(auto, unfolding(crate::specs::reading::Elements::some_variability))]
 fn some_variability(tokens: &mut Tokens<'_>) -> Result<Variability, Halt>
     ensures { Reads (spec.some_variability tokens.old) result tokens.new }
@@ -28,6 +30,7 @@ fn some_variability(tokens: &mut Tokens<'_>) -> Result<Variability, Halt>
     Ok(found)
 }
 
+/// `[ "input"|"output" ]`
 #[tactic(auto, unfolding(crate::specs::reading::Elements::some_causality))]
 pub fn some_causality(tokens: &mut Tokens<'_>) -> Result<Causality, Halt>
     ensures { Reads (spec.some_causality tokens.old) result tokens.new }
@@ -39,7 +42,7 @@ pub fn some_causality(tokens: &mut Tokens<'_>) -> Result<Causality, Halt>
     Ok(found)
 }
 
-// A component gets a type name of its own.
+/// A component gets a type name of its own.
 fn copied(alloc: Global, path: &Path) -> Result<Path, Halt>
     ensures ok { IfOk result (λ p. p ≡ path.now) }
     ensures err { IfErr result (λ e. e ≡ Halt.NoMemory) }
@@ -50,6 +53,7 @@ fn copied(alloc: Global, path: &Path) -> Result<Path, Halt>
     })
 }
 
+/// The component that a name and its modification declare.
 fn element_of(
     alloc: Global,
     declared: &Declared,
@@ -70,6 +74,7 @@ fn element_of(
     })
 }
 
+/// `[ "parameter"|"constant"|"discrete" ] [ "input"|"output" ] name`
 #[tactic(auto, unfolding(crate::specs::reading::Elements::declared))]
 fn declared(alloc: Global, tokens: &mut Tokens<'_>) -> Result<Declared, Halt>
     ensures { Reads (spec.declared tokens.old) result tokens.new }
@@ -84,15 +89,8 @@ fn declared(alloc: Global, tokens: &mut Tokens<'_>) -> Result<Declared, Halt>
     })
 }
 
-/// Reads what stands outside of all brackets and if-expressions.
-#[derive(Clone, Copy)]
-pub struct Reader {
-    pub alloc: Global,
-    /// How many levels of brackets and if-expressions may be opened.
-    pub depth: usize,
-}
-
 impl Reader {
+    /// `Ident [ modif ] comment`
     #[tactic(auto, unfolding(crate::specs::reading::Elements::component))]
     fn component(
         &self,
@@ -109,6 +107,7 @@ impl Reader {
         Ok(all)
     }
 
+    /// `"," component`
     #[tactic(auto, unfolding(crate::specs::reading::Elements::further_component))]
     fn further_component(
         &self,
@@ -122,6 +121,7 @@ impl Reader {
         self.component(tokens, declared, all)
     }
 
+    /// `{ "," component }`
     #[tactic(auto, unfolding(crate::specs::reading::Outcomes::turns))]
     fn more_components(
         &self,
@@ -140,6 +140,7 @@ impl Reader {
         Ok(all)
     }
 
+    /// `component { "," component }`
     #[tactic(auto, unfolding(crate::specs::reading::Elements::components))]
     fn components(
         &self,
@@ -153,6 +154,7 @@ impl Reader {
         self.more_components(tokens, declared, all)
     }
 
+    /// `declared component { "," component } ";"`
     #[tactic(auto, unfolding(crate::specs::reading::Elements::element))]
     fn element(&self, tokens: &mut Tokens<'_>, all: List<Element>) -> Result<List<Element>, Halt>
         ensures { Reads (spec.element self.now.depth all tokens.old) result tokens.new }
@@ -162,6 +164,7 @@ impl Reader {
         symbol(tokens, Sym::Semicolon).and(Ok(all))
     }
 
+    /// `{ element }`
     #[tactic(auto, unfolding(crate::specs::reading::Outcomes::turns))]
     pub fn elements(
         &self,

@@ -1,20 +1,21 @@
 //! Equations of classes.
 ghost use Rattle.std.specs.Prelude.{◌≡◌, length};
-ghost use Rattle.mo_parser.specs.grammar.Kinds as kinds;
+ghost use Rattle.mo_parser.specs.reading.Starts as starts;
 ghost use Rattle.mo_parser.specs.reading.Outcomes.{Reads, many};
 ghost use Rattle.mo_parser.specs.reading.Equations as spec;
 
 use super::comments::comment;
-use super::elements::Reader;
 use super::expressions::{simple_expr, whole_expr};
 use super::kinds::{begins_equation, begins_simple, is_word};
 use super::names::{name, symbol, word};
+use super::reader::Reader;
 use super::tokens::{Halt, Tokens};
 use crate::tree::{TreeEq, TreeExpr};
 use mo_lexer::{Sym, Word};
 use std::alloc::Global;
 use sync_values::List;
 
+/// `"connect" "(" name "," name ")"`
 #[tactic(auto, unfolding(crate::specs::reading::Equations::connect))]
 fn connect(alloc: Global, tokens: &mut Tokens<'_>) -> Result<TreeEq, Halt>
     ensures { Reads (spec.connect tokens.old) result tokens.new }
@@ -28,6 +29,7 @@ fn connect(alloc: Global, tokens: &mut Tokens<'_>) -> Result<TreeEq, Halt>
 }
 
 impl Reader {
+    /// `"=" expr`
     #[tactic(auto, unfolding(crate::specs::reading::Equations::right_side))]
     fn right_side(&self, tokens: &mut Tokens<'_>) -> Result<TreeExpr, Halt>
         ensures { Reads (spec.right_side self.now.depth tokens.old) result tokens.new }
@@ -36,6 +38,7 @@ impl Reader {
         whole_expr(self.alloc, tokens, self.depth)
     }
 
+    /// `simple "=" expr`
     #[tactic(auto, unfolding(crate::specs::reading::Equations::equal))]
     fn equal(&self, tokens: &mut Tokens<'_>) -> Result<TreeEq, Halt>
         ensures { Reads (spec.equal self.now.depth tokens.old) result tokens.new }
@@ -45,6 +48,7 @@ impl Reader {
         right.map(|right| TreeEq::Equal(left, right))
     }
 
+    /// `simple "=" expr comment ";"`
     #[tactic(auto, unfolding(crate::specs::reading::Equations::clause_equation))]
     fn clause_equation(
         &self,
@@ -58,13 +62,14 @@ impl Reader {
         symbol(tokens, Sym::Semicolon).and(Ok(all))
     }
 
+    /// `{ simple "=" expr comment ";" }`
     #[tactic(auto, unfolding(crate::specs::reading::Outcomes::turns))]
     fn clause_equations(
         &self,
         tokens: &mut Tokens<'_>,
         mut all: List<TreeEq>,
     ) -> Result<List<TreeEq>, Halt>
-        ensures { Reads (many kinds.begins_simple (spec.clause_equation self.now.depth) all tokens.old) result tokens.new }
+        ensures { Reads (many starts.begins_simple (spec.clause_equation self.now.depth) all tokens.old) result tokens.new }
     {
         for _turn in 0..tokens.count() {
             if !begins_simple(tokens.peek()) {
@@ -75,6 +80,7 @@ impl Reader {
         Ok(all)
     }
 
+    /// `"then" { simple "=" expr comment ";" } "end" "when"`
     #[tactic(auto, unfolding(crate::specs::reading::Equations::clause_body))]
     fn clause_body(&self, tokens: &mut Tokens<'_>) -> Result<List<TreeEq>, Halt>
         ensures { Reads (spec.clause_body self.now.depth tokens.old) result tokens.new }
@@ -85,6 +91,7 @@ impl Reader {
         word(tokens, Word::KwWhen).and(Ok(equations))
     }
 
+    /// `"when" expr "then" { simple "=" expr comment ";" } "end" "when"`
     #[tactic(auto, unfolding(crate::specs::reading::Equations::clause))]
     fn clause(&self, tokens: &mut Tokens<'_>) -> Result<TreeEq, Halt>
         ensures { Reads (spec.clause self.now.depth tokens.old) result tokens.new }
@@ -95,6 +102,7 @@ impl Reader {
         equations.map(|equations| TreeEq::When(clock, equations))
     }
 
+    /// `simple "=" expr | when | connect`
     #[tactic(auto, unfolding(crate::specs::reading::Equations::any_equation))]
     fn any_equation(&self, tokens: &mut Tokens<'_>) -> Result<TreeEq, Halt>
         ensures { Reads (spec.any_equation self.now.depth tokens.old) result tokens.new }
@@ -109,6 +117,7 @@ impl Reader {
         }
     }
 
+    /// `( simple "=" expr | when | connect ) comment ";"`
     #[tactic(auto, unfolding(crate::specs::reading::Equations::equation))]
     fn equation(&self, tokens: &mut Tokens<'_>, mut all: List<TreeEq>) -> Result<List<TreeEq>, Halt>
         ensures { Reads (spec.equation self.now.depth all tokens.old) result tokens.new }
@@ -118,6 +127,7 @@ impl Reader {
         symbol(tokens, Sym::Semicolon).and(Ok(all))
     }
 
+    /// `{ equation }`
     #[tactic(auto, unfolding(crate::specs::reading::Outcomes::turns))]
     pub fn equations(
         &self,

@@ -4,24 +4,24 @@ ghost use Rattle.mo_lexer.specs.declared.token.Sym.TheVariants as s;
 ghost use Rattle.mo_lexer.specs.declared.token.Word.TheVariants as w;
 ghost use Rattle.mo_parser.specs.grammar.Kinds as kinds;
 ghost use Rattle.mo_parser.specs.grammar.Trees as trees;
-ghost use Rattle.mo_parser.specs.reading.Outcomes.{Reads, many, one_by};
+ghost use Rattle.mo_parser.specs.reading.Outcomes.{Reads, many};
 ghost use Rattle.mo_parser.specs.reading.Expressions as spec;
 ghost use Rattle.mo_parser.specs.reading.Nests.{Nests};
 
-use super::kinds::{
-    and_of, is_symbol, is_word, literal_of, or_of, product_of, relation_of, sum_of,
-};
-use super::names::{Named, name, span_of, symbol, word};
-use super::parts::{Arguments, Branches, Links};
+use super::chains::{Conjunctions, Disjunctions, Products, Sums};
+use super::kinds::{is_symbol, is_word, literal_of, relation_of};
+use super::names::{Named, name, symbol, word};
+use super::parts::{Arguments, Branches};
 use super::tokens::{Halt, Tokens};
 use crate::tree::{Span, TreeExpr, TreeNode};
 use mo_lexer::{Sym, Word};
 use sqlite_items::Boxed;
 use std::alloc::Global;
-use sync_values::{ChainOp, List, Rel};
+use sync_values::{List, Rel};
 
+/// A node on the bytes from `at` to `end`.
 #[tactic(auto, unfolding(crate::specs::grammar::Trees::spanning))]
-fn spanning(node: TreeNode, at: u32, end: u32) -> TreeExpr
+pub fn spanning(node: TreeNode, at: u32, end: u32) -> TreeExpr
     ensures { result ≡ trees.spanning node at end }
 {
     TreeExpr {
@@ -30,20 +30,23 @@ fn spanning(node: TreeNode, at: u32, end: u32) -> TreeExpr
     }
 }
 
+/// The first byte of an expression.
 #[tactic(auto, unfolding(crate::specs::grammar::Trees::begins))]
-fn begins(expr: &TreeExpr) -> u32
+pub fn begins(expr: &TreeExpr) -> u32
     ensures { result ≡ trees.begins expr.now }
 {
     expr.span.at
 }
 
+/// The byte behind an expression.
 #[tactic(auto, unfolding(crate::specs::grammar::Trees::ends))]
-fn ends(expr: &TreeExpr) -> u32
+pub fn ends(expr: &TreeExpr) -> u32
     ensures { result ≡ trees.ends expr.now }
 {
     expr.span.end
 }
 
+/// An expression in brackets or behind a plus, which leave no node.
 #[tactic(auto, unfolding(crate::specs::grammar::Trees::widened))]
 fn widened(at: u32, end: u32, expr: TreeExpr) -> TreeExpr
     ensures { result ≡ trees.widened at end expr }
@@ -52,6 +55,7 @@ fn widened(at: u32, end: u32, expr: TreeExpr) -> TreeExpr
     spanning(node, at, end)
 }
 
+/// `"-" expr`, with the sign at this byte
 fn negated(alloc: Global, at: u32, expr: TreeExpr) -> Result<TreeExpr, Halt>
     ensures ok { IfOk result (λ e. e ≡ trees.negated at expr) }
     ensures err { IfErr result (λ e. e ≡ Halt.NoMemory) }
@@ -60,6 +64,7 @@ fn negated(alloc: Global, at: u32, expr: TreeExpr) -> Result<TreeExpr, Halt>
     Ok(spanning(TreeNode::Neg(Boxed::new(alloc, expr)?), at, end))
 }
 
+/// `"not" expr`, with the word at this byte
 fn inverted(alloc: Global, at: u32, expr: TreeExpr) -> Result<TreeExpr, Halt>
     ensures ok { IfOk result (λ e. e ≡ trees.inverted at expr) }
     ensures err { IfErr result (λ e. e ≡ Halt.NoMemory) }
@@ -68,6 +73,7 @@ fn inverted(alloc: Global, at: u32, expr: TreeExpr) -> Result<TreeExpr, Halt>
     Ok(spanning(TreeNode::Not(Boxed::new(alloc, expr)?), at, end))
 }
 
+/// `base "^" exponent`
 fn powered(alloc: Global, base: TreeExpr, exponent: TreeExpr) -> Result<TreeExpr, Halt>
     ensures ok { IfOk result (λ e. e ≡ trees.powered base exponent) }
     ensures err { IfErr result (λ e. e ≡ Halt.NoMemory) }
@@ -79,6 +85,7 @@ fn powered(alloc: Global, base: TreeExpr, exponent: TreeExpr) -> Result<TreeExpr
     Ok(spanning(TreeNode::Power(base?, exponent), at, end))
 }
 
+/// `left rel right`
 fn related(alloc: Global, rel: Rel, left: TreeExpr, right: TreeExpr) -> Result<TreeExpr, Halt>
     ensures ok { IfOk result (λ e. e ≡ trees.related rel left right) }
     ensures err { IfErr result (λ e. e ≡ Halt.NoMemory) }
@@ -90,39 +97,7 @@ fn related(alloc: Global, rel: Rel, left: TreeExpr, right: TreeExpr) -> Result<T
     Ok(spanning(TreeNode::Relation(rel, left?, right), at, end))
 }
 
-// The first part of a chain.
-fn alone(alloc: Global, first: TreeExpr) -> Result<Links, Halt>
-    ensures ok { IfOk result (λ l. l ≡ trees.alone first) }
-    ensures err { IfErr result (λ e. e ≡ Halt.NoMemory) }
-{
-    let end = ends(&first);
-    // Most chains have two parts.
-    let mut parts = List::with_capacity(alloc, 2)?;
-    parts.push(first)?;
-    Ok(Links {
-        parts,
-        ops: List::new(alloc),
-        end,
-    })
-}
-
-fn linked(mut links: Links, op: ChainOp, part: TreeExpr) -> Result<Links, Halt>
-    ensures ok { IfOk result (λ l. l ≡ trees.linked links op part) }
-    ensures err { IfErr result (λ e. e ≡ Halt.NoMemory) }
-{
-    links.end = ends(&part);
-    links.parts.push(part)?;
-    links.ops.push(op)?;
-    Ok(links)
-}
-
-fn chained(at: u32, links: Links) -> TreeExpr
-    ensures { result ≡ trees.chained at links }
-{
-    let Links { parts, ops, end } = links;
-    spanning(TreeNode::Chain(parts, ops), at, end)
-}
-
+/// An if-expression so far with one more branch.
 fn branched(mut all: Branches, condition: TreeExpr, value: TreeExpr) -> Result<Branches, Halt>
     ensures ok { IfOk result (λ b. b ≡ trees.branched all condition value) }
     ensures err { IfErr result (λ e. e ≡ Halt.NoMemory) }
@@ -133,6 +108,7 @@ fn branched(mut all: Branches, condition: TreeExpr, value: TreeExpr) -> Result<B
     Ok(all)
 }
 
+/// A whole if-expression, with its word at this byte.
 fn chosen(alloc: Global, at: u32, all: Branches, other: TreeExpr) -> Result<TreeExpr, Halt>
     ensures ok { IfOk result (λ e. e ≡ trees.chosen at all other) }
     ensures err { IfErr result (λ e. e ≡ Halt.NoMemory) }
@@ -146,6 +122,7 @@ fn chosen(alloc: Global, at: u32, all: Branches, other: TreeExpr) -> Result<Tree
     Ok(spanning(TreeNode::If(conditions, branches, other), at, end))
 }
 
+/// `Integer | "true" | "false"`
 #[tactic(auto, unfolding(crate::specs::reading::Expressions::literal))]
 fn literal(tokens: &mut Tokens<'_>) -> Result<TreeExpr, Halt>
     ensures { Reads (spec.literal tokens.old) result tokens.new }
@@ -158,17 +135,7 @@ fn literal(tokens: &mut Tokens<'_>) -> Result<TreeExpr, Halt>
     Ok(spanning(TreeNode::Const(value), next.at, next.end))
 }
 
-// The operator that the next token was found to be.
-fn operator(tokens: &mut Tokens<'_>, found: Option<ChainOp>) -> Result<ChainOp, Halt>
-    ensures { Reads (one_by found tokens.old) result tokens.new }
-{
-    let Some(op) = found else {
-        return Err(Halt::Stuck);
-    };
-    tokens.advance();
-    Ok(op)
-}
-
+/// Reads expressions, where `expr` reads those one level deeper.
 #[derive(Clone, Copy)]
 pub struct Grammar<F> {
     pub alloc: Global,
@@ -178,6 +145,7 @@ pub struct Grammar<F> {
 }
 
 impl<F: Fn(Global, &mut Tokens<'_>, usize) -> Result<TreeExpr, Halt>> Grammar<F> {
+    /// `expr`, one level deeper
     pub fn whole(&self, tokens: &mut Tokens<'_>) -> Result<TreeExpr, Halt>
         requires { Nests self.now.depth (F.pre self.now.expr) (F.post self.now.expr) }
         ensures { Reads (spec.expr self.now.depth tokens.old) result tokens.new }
@@ -185,6 +153,7 @@ impl<F: Fn(Global, &mut Tokens<'_>, usize) -> Result<TreeExpr, Halt>> Grammar<F>
         (self.expr)(self.alloc, tokens, self.depth)
     }
 
+    /// `expr` behind an opening bracket
     #[tactic(auto, unfolding(crate::specs::reading::Expressions::inner))]
     fn inner(&self, tokens: &mut Tokens<'_>) -> Result<TreeExpr, Halt>
         requires { Nests self.now.depth (F.pre self.now.expr) (F.post self.now.expr) }
@@ -196,6 +165,7 @@ impl<F: Fn(Global, &mut Tokens<'_>, usize) -> Result<TreeExpr, Halt>> Grammar<F>
         self.whole(tokens)
     }
 
+    /// `"(" expr ")"`
     #[tactic(auto, unfolding(crate::specs::reading::Expressions::bracketed))]
     fn bracketed(&self, tokens: &mut Tokens<'_>) -> Result<TreeExpr, Halt>
         requires { Nests self.now.depth (F.pre self.now.expr) (F.post self.now.expr) }
@@ -207,6 +177,7 @@ impl<F: Fn(Global, &mut Tokens<'_>, usize) -> Result<TreeExpr, Halt>> Grammar<F>
         last.map(|last| widened(first.at, last.end, expr))
     }
 
+    /// `"," expr`
     #[tactic(auto, unfolding(crate::specs::reading::Expressions::further))]
     fn further(
         &self,
@@ -222,6 +193,7 @@ impl<F: Fn(Global, &mut Tokens<'_>, usize) -> Result<TreeExpr, Halt>> Grammar<F>
         Ok(all)
     }
 
+    /// `{ "," expr }`
     #[tactic(auto, unfolding(crate::specs::reading::Outcomes::turns))]
     fn all_further(
         &self,
@@ -240,6 +212,7 @@ impl<F: Fn(Global, &mut Tokens<'_>, usize) -> Result<TreeExpr, Halt>> Grammar<F>
         Ok(all)
     }
 
+    /// `expr { "," expr }`
     #[tactic(auto, unfolding(crate::specs::reading::Expressions::listed))]
     fn listed(&self, tokens: &mut Tokens<'_>) -> Result<List<TreeExpr>, Halt>
         requires { Nests self.now.depth (F.pre self.now.expr) (F.post self.now.expr) }
@@ -251,6 +224,7 @@ impl<F: Fn(Global, &mut Tokens<'_>, usize) -> Result<TreeExpr, Halt>> Grammar<F>
         self.all_further(tokens, all)
     }
 
+    /// `[ expr { "," expr } ] ")"`
     #[tactic(auto, unfolding(crate::specs::reading::Expressions::arguments))]
     fn arguments(&self, tokens: &mut Tokens<'_>) -> Result<Arguments, Halt>
         requires { Nests self.now.depth (F.pre self.now.expr) (F.post self.now.expr) }
@@ -268,6 +242,7 @@ impl<F: Fn(Global, &mut Tokens<'_>, usize) -> Result<TreeExpr, Halt>> Grammar<F>
         Ok(Arguments { all, end: last.end })
     }
 
+    /// `name [ "(" [ expr { "," expr } ] ")" ]`
     #[tactic(auto, unfolding(crate::specs::reading::Expressions::reference))]
     fn reference(&self, tokens: &mut Tokens<'_>) -> Result<TreeExpr, Halt>
         requires { Nests self.now.depth (F.pre self.now.expr) (F.post self.now.expr) }
@@ -284,6 +259,7 @@ impl<F: Fn(Global, &mut Tokens<'_>, usize) -> Result<TreeExpr, Halt>> Grammar<F>
         Ok(spanning(TreeNode::Call(path, arguments.all), span.at, arguments.end))
     }
 
+    /// `literal | "(" expr ")" | reference`
     #[tactic(auto, unfolding(crate::specs::reading::Expressions::primary))]
     fn primary(&self, tokens: &mut Tokens<'_>) -> Result<TreeExpr, Halt>
         requires { Nests self.now.depth (F.pre self.now.expr) (F.post self.now.expr) }
@@ -299,8 +275,9 @@ impl<F: Fn(Global, &mut Tokens<'_>, usize) -> Result<TreeExpr, Halt>> Grammar<F>
         }
     }
 
+    /// `primary [ "^" primary ]`
     #[tactic(auto, unfolding(crate::specs::reading::Expressions::factor, crate::specs::reading::Names::symbol))]
-    fn factor(&self, tokens: &mut Tokens<'_>) -> Result<TreeExpr, Halt>
+    pub fn factor(&self, tokens: &mut Tokens<'_>) -> Result<TreeExpr, Halt>
         requires { Nests self.now.depth (F.pre self.now.expr) (F.post self.now.expr) }
         ensures { Reads (spec.factor (spec.expr self.now.depth) tokens.old) result tokens.new }
     {
@@ -313,53 +290,17 @@ impl<F: Fn(Global, &mut Tokens<'_>, usize) -> Result<TreeExpr, Halt>> Grammar<F>
         exponent.and_then(|exponent| powered(self.alloc, base, exponent))
     }
 
-    #[tactic(auto, unfolding(crate::specs::reading::Expressions::link))]
-    fn product_link(&self, tokens: &mut Tokens<'_>, links: Links) -> Result<Links, Halt>
-        requires { Nests self.now.depth (F.pre self.now.expr) (F.post self.now.expr) }
-        ensures { Reads (spec.link kinds.product_of (spec.factor (spec.expr self.now.depth)) links tokens.old) result tokens.new }
-    {
-        let op = operator(tokens, product_of(tokens.peek()))?;
-        let part = self.factor(tokens)?;
-        linked(links, op, part)
-    }
-
-    #[tactic(auto, unfolding(crate::specs::reading::Outcomes::turns))]
-    fn more_product_links(&self, tokens: &mut Tokens<'_>, mut links: Links) -> Result<Links, Halt>
-        requires { Nests self.now.depth (F.pre self.now.expr) (F.post self.now.expr) }
-        ensures { Reads (many (spec.is_op kinds.product_of) (spec.link kinds.product_of (spec.factor (spec.expr self.now.depth))) links tokens.old) result tokens.new }
-    {
-        for _turn in 0..tokens.count() {
-            if !product_of(tokens.peek()).is_some() {
-                break;
-            }
-            links = self.product_link(tokens, links)?;
-        }
-        Ok(links)
-    }
-
-    #[tactic(auto, unfolding(crate::specs::reading::Expressions::links))]
-    fn product_links(&self, tokens: &mut Tokens<'_>, first: TreeExpr) -> Result<TreeExpr, Halt>
-        requires { Nests self.now.depth (F.pre self.now.expr) (F.post self.now.expr) }
-        ensures { Reads (spec.links kinds.product_of (spec.factor (spec.expr self.now.depth)) first tokens.old) result tokens.new }
-    {
-        if !product_of(tokens.peek()).is_some() {
-            return Ok(first);
-        }
-        let at = begins(&first);
-        let links = self.product_link(tokens, alone(self.alloc, first)?)?;
-        let links = self.more_product_links(tokens, links)?;
-        Ok(chained(at, links))
-    }
-
+    /// `factor { ("*"|"/") factor }`
     #[tactic(auto, unfolding(crate::specs::reading::Expressions::term))]
-    fn term(&self, tokens: &mut Tokens<'_>) -> Result<TreeExpr, Halt>
+    pub fn term(&self, tokens: &mut Tokens<'_>) -> Result<TreeExpr, Halt>
         requires { Nests self.now.depth (F.pre self.now.expr) (F.post self.now.expr) }
         ensures { Reads (spec.term (spec.expr self.now.depth) tokens.old) result tokens.new }
     {
         let first = self.factor(tokens)?;
-        self.product_links(tokens, first)
+        self.links::<Products>(tokens, first)
     }
 
+    /// `[ "+"|"-" ] term`
     #[tactic(auto, unfolding(crate::specs::reading::Expressions::signed))]
     fn signed(&self, tokens: &mut Tokens<'_>) -> Result<TreeExpr, Halt>
         requires { Nests self.now.depth (F.pre self.now.expr) (F.post self.now.expr) }
@@ -380,53 +321,17 @@ impl<F: Fn(Global, &mut Tokens<'_>, usize) -> Result<TreeExpr, Halt>> Grammar<F>
         self.term(tokens)
     }
 
-    #[tactic(auto, unfolding(crate::specs::reading::Expressions::link))]
-    fn sum_link(&self, tokens: &mut Tokens<'_>, links: Links) -> Result<Links, Halt>
-        requires { Nests self.now.depth (F.pre self.now.expr) (F.post self.now.expr) }
-        ensures { Reads (spec.link kinds.sum_of (spec.term (spec.expr self.now.depth)) links tokens.old) result tokens.new }
-    {
-        let op = operator(tokens, sum_of(tokens.peek()))?;
-        let part = self.term(tokens)?;
-        linked(links, op, part)
-    }
-
-    #[tactic(auto, unfolding(crate::specs::reading::Outcomes::turns))]
-    fn more_sum_links(&self, tokens: &mut Tokens<'_>, mut links: Links) -> Result<Links, Halt>
-        requires { Nests self.now.depth (F.pre self.now.expr) (F.post self.now.expr) }
-        ensures { Reads (many (spec.is_op kinds.sum_of) (spec.link kinds.sum_of (spec.term (spec.expr self.now.depth))) links tokens.old) result tokens.new }
-    {
-        for _turn in 0..tokens.count() {
-            if !sum_of(tokens.peek()).is_some() {
-                break;
-            }
-            links = self.sum_link(tokens, links)?;
-        }
-        Ok(links)
-    }
-
-    #[tactic(auto, unfolding(crate::specs::reading::Expressions::links))]
-    fn sum_links(&self, tokens: &mut Tokens<'_>, first: TreeExpr) -> Result<TreeExpr, Halt>
-        requires { Nests self.now.depth (F.pre self.now.expr) (F.post self.now.expr) }
-        ensures { Reads (spec.links kinds.sum_of (spec.term (spec.expr self.now.depth)) first tokens.old) result tokens.new }
-    {
-        if !sum_of(tokens.peek()).is_some() {
-            return Ok(first);
-        }
-        let at = begins(&first);
-        let links = self.sum_link(tokens, alone(self.alloc, first)?)?;
-        let links = self.more_sum_links(tokens, links)?;
-        Ok(chained(at, links))
-    }
-
+    /// `[ "+"|"-" ] term { ("+"|"-") term }`
     #[tactic(auto, unfolding(crate::specs::reading::Expressions::arith))]
     fn arith(&self, tokens: &mut Tokens<'_>) -> Result<TreeExpr, Halt>
         requires { Nests self.now.depth (F.pre self.now.expr) (F.post self.now.expr) }
         ensures { Reads (spec.arith (spec.expr self.now.depth) tokens.old) result tokens.new }
     {
         let first = self.signed(tokens)?;
-        self.sum_links(tokens, first)
+        self.links::<Sums>(tokens, first)
     }
 
+    /// `arith [ ("<"|"<="|">"|">="|"=="|"<>") arith ]`
     #[tactic(auto, unfolding(crate::specs::reading::Expressions::rel))]
     fn rel(&self, tokens: &mut Tokens<'_>) -> Result<TreeExpr, Halt>
         requires { Nests self.now.depth (F.pre self.now.expr) (F.post self.now.expr) }
@@ -441,8 +346,9 @@ impl<F: Fn(Global, &mut Tokens<'_>, usize) -> Result<TreeExpr, Halt>> Grammar<F>
         right.and_then(|right| related(self.alloc, rel, left, right))
     }
 
+    /// `[ "not" ] rel`
     #[tactic(auto, unfolding(crate::specs::reading::Expressions::lit))]
-    fn lit(&self, tokens: &mut Tokens<'_>) -> Result<TreeExpr, Halt>
+    pub fn lit(&self, tokens: &mut Tokens<'_>) -> Result<TreeExpr, Halt>
         requires { Nests self.now.depth (F.pre self.now.expr) (F.post self.now.expr) }
         ensures { Reads (spec.lit (spec.expr self.now.depth) tokens.old) result tokens.new }
     {
@@ -454,100 +360,27 @@ impl<F: Fn(Global, &mut Tokens<'_>, usize) -> Result<TreeExpr, Halt>> Grammar<F>
         inverted(self.alloc, not_word.at, expr)
     }
 
-    #[tactic(auto, unfolding(crate::specs::reading::Expressions::link))]
-    fn and_link(&self, tokens: &mut Tokens<'_>, links: Links) -> Result<Links, Halt>
-        requires { Nests self.now.depth (F.pre self.now.expr) (F.post self.now.expr) }
-        ensures { Reads (spec.link kinds.and_of (spec.lit (spec.expr self.now.depth)) links tokens.old) result tokens.new }
-    {
-        let op = operator(tokens, and_of(tokens.peek()))?;
-        let part = self.lit(tokens)?;
-        linked(links, op, part)
-    }
-
-    #[tactic(auto, unfolding(crate::specs::reading::Outcomes::turns))]
-    fn more_and_links(&self, tokens: &mut Tokens<'_>, mut links: Links) -> Result<Links, Halt>
-        requires { Nests self.now.depth (F.pre self.now.expr) (F.post self.now.expr) }
-        ensures { Reads (many (spec.is_op kinds.and_of) (spec.link kinds.and_of (spec.lit (spec.expr self.now.depth))) links tokens.old) result tokens.new }
-    {
-        for _turn in 0..tokens.count() {
-            if !and_of(tokens.peek()).is_some() {
-                break;
-            }
-            links = self.and_link(tokens, links)?;
-        }
-        Ok(links)
-    }
-
-    #[tactic(auto, unfolding(crate::specs::reading::Expressions::links))]
-    fn and_links(&self, tokens: &mut Tokens<'_>, first: TreeExpr) -> Result<TreeExpr, Halt>
-        requires { Nests self.now.depth (F.pre self.now.expr) (F.post self.now.expr) }
-        ensures { Reads (spec.links kinds.and_of (spec.lit (spec.expr self.now.depth)) first tokens.old) result tokens.new }
-    {
-        if !and_of(tokens.peek()).is_some() {
-            return Ok(first);
-        }
-        let at = begins(&first);
-        let links = self.and_link(tokens, alone(self.alloc, first)?)?;
-        let links = self.more_and_links(tokens, links)?;
-        Ok(chained(at, links))
-    }
-
+    /// `lit { "and" lit }`
     #[tactic(auto, unfolding(crate::specs::reading::Expressions::conj))]
-    fn conj(&self, tokens: &mut Tokens<'_>) -> Result<TreeExpr, Halt>
+    pub fn conj(&self, tokens: &mut Tokens<'_>) -> Result<TreeExpr, Halt>
         requires { Nests self.now.depth (F.pre self.now.expr) (F.post self.now.expr) }
         ensures { Reads (spec.conj (spec.expr self.now.depth) tokens.old) result tokens.new }
     {
         let first = self.lit(tokens)?;
-        self.and_links(tokens, first)
+        self.links::<Conjunctions>(tokens, first)
     }
 
-    #[tactic(auto, unfolding(crate::specs::reading::Expressions::link))]
-    fn or_link(&self, tokens: &mut Tokens<'_>, links: Links) -> Result<Links, Halt>
-        requires { Nests self.now.depth (F.pre self.now.expr) (F.post self.now.expr) }
-        ensures { Reads (spec.link kinds.or_of (spec.conj (spec.expr self.now.depth)) links tokens.old) result tokens.new }
-    {
-        let op = operator(tokens, or_of(tokens.peek()))?;
-        let part = self.conj(tokens)?;
-        linked(links, op, part)
-    }
-
-    #[tactic(auto, unfolding(crate::specs::reading::Outcomes::turns))]
-    fn more_or_links(&self, tokens: &mut Tokens<'_>, mut links: Links) -> Result<Links, Halt>
-        requires { Nests self.now.depth (F.pre self.now.expr) (F.post self.now.expr) }
-        ensures { Reads (many (spec.is_op kinds.or_of) (spec.link kinds.or_of (spec.conj (spec.expr self.now.depth))) links tokens.old) result tokens.new }
-    {
-        for _turn in 0..tokens.count() {
-            if !or_of(tokens.peek()).is_some() {
-                break;
-            }
-            links = self.or_link(tokens, links)?;
-        }
-        Ok(links)
-    }
-
-    #[tactic(auto, unfolding(crate::specs::reading::Expressions::links))]
-    fn or_links(&self, tokens: &mut Tokens<'_>, first: TreeExpr) -> Result<TreeExpr, Halt>
-        requires { Nests self.now.depth (F.pre self.now.expr) (F.post self.now.expr) }
-        ensures { Reads (spec.links kinds.or_of (spec.conj (spec.expr self.now.depth)) first tokens.old) result tokens.new }
-    {
-        if !or_of(tokens.peek()).is_some() {
-            return Ok(first);
-        }
-        let at = begins(&first);
-        let links = self.or_link(tokens, alone(self.alloc, first)?)?;
-        let links = self.more_or_links(tokens, links)?;
-        Ok(chained(at, links))
-    }
-
+    /// `conj { "or" conj }`
     #[tactic(auto, unfolding(crate::specs::reading::Expressions::simple))]
     pub fn simple(&self, tokens: &mut Tokens<'_>) -> Result<TreeExpr, Halt>
         requires { Nests self.now.depth (F.pre self.now.expr) (F.post self.now.expr) }
         ensures { Reads (spec.simple (spec.expr self.now.depth) tokens.old) result tokens.new }
     {
         let first = self.conj(tokens)?;
-        self.or_links(tokens, first)
+        self.links::<Disjunctions>(tokens, first)
     }
 
+    /// `"then" expr`
     #[tactic(auto, unfolding(crate::specs::reading::Expressions::consequence))]
     fn consequence(&self, tokens: &mut Tokens<'_>) -> Result<TreeExpr, Halt>
         requires { Nests self.now.depth (F.pre self.now.expr) (F.post self.now.expr) }
@@ -557,6 +390,7 @@ impl<F: Fn(Global, &mut Tokens<'_>, usize) -> Result<TreeExpr, Halt>> Grammar<F>
         self.whole(tokens)
     }
 
+    /// `expr "then" expr`, behind `"if"` or `"elseif"`
     #[tactic(auto, unfolding(crate::specs::reading::Expressions::branch))]
     fn branch(&self, tokens: &mut Tokens<'_>, all: Branches) -> Result<Branches, Halt>
         requires { Nests self.now.depth (F.pre self.now.expr) (F.post self.now.expr) }
@@ -567,6 +401,7 @@ impl<F: Fn(Global, &mut Tokens<'_>, usize) -> Result<TreeExpr, Halt>> Grammar<F>
         value.and_then(|value| branched(all, condition, value))
     }
 
+    /// `"elseif" expr "then" expr`
     #[tactic(auto, unfolding(crate::specs::reading::Expressions::other_branch))]
     fn other_branch(&self, tokens: &mut Tokens<'_>, all: Branches) -> Result<Branches, Halt>
         requires { Nests self.now.depth (F.pre self.now.expr) (F.post self.now.expr) }
@@ -576,6 +411,7 @@ impl<F: Fn(Global, &mut Tokens<'_>, usize) -> Result<TreeExpr, Halt>> Grammar<F>
         self.branch(tokens, all)
     }
 
+    /// `{ "elseif" expr "then" expr }`
     #[tactic(auto, unfolding(crate::specs::reading::Outcomes::turns))]
     fn other_branches(&self, tokens: &mut Tokens<'_>, mut all: Branches) -> Result<Branches, Halt>
         requires { Nests self.now.depth (F.pre self.now.expr) (F.post self.now.expr) }
@@ -590,6 +426,7 @@ impl<F: Fn(Global, &mut Tokens<'_>, usize) -> Result<TreeExpr, Halt>> Grammar<F>
         Ok(all)
     }
 
+    /// `"else" expr`
     #[tactic(auto, unfolding(crate::specs::reading::Expressions::otherwise))]
     fn otherwise(&self, tokens: &mut Tokens<'_>) -> Result<TreeExpr, Halt>
         requires { Nests self.now.depth (F.pre self.now.expr) (F.post self.now.expr) }
@@ -599,6 +436,7 @@ impl<F: Fn(Global, &mut Tokens<'_>, usize) -> Result<TreeExpr, Halt>> Grammar<F>
         self.whole(tokens)
     }
 
+    /// `"if" expr "then" expr { "elseif" expr "then" expr } "else" expr`
     #[tactic(auto, unfolding(crate::specs::reading::Expressions::choice))]
     fn choice(&self, tokens: &mut Tokens<'_>) -> Result<TreeExpr, Halt>
         requires { Nests self.now.depth (F.pre self.now.expr) (F.post self.now.expr) }
@@ -615,6 +453,7 @@ impl<F: Fn(Global, &mut Tokens<'_>, usize) -> Result<TreeExpr, Halt>> Grammar<F>
         other.and_then(|other| chosen(self.alloc, if_word.at, all, other))
     }
 
+    /// `choice | simple`
     #[tactic(auto, unfolding(crate::specs::reading::Expressions::level))]
     pub fn level(&self, tokens: &mut Tokens<'_>) -> Result<TreeExpr, Halt>
         requires { Nests self.now.depth (F.pre self.now.expr) (F.post self.now.expr) }

@@ -1,11 +1,13 @@
 //! What a single token is.
 ghost use Rattle.std.specs.Prelude.{◌≡◌};
 ghost use Rattle.mo_parser.specs.grammar.Kinds as spec;
+ghost use Rattle.mo_parser.specs.reading.Starts as starts;
 
 use crate::tree::{Causality, ClassKind, Variability};
 use mo_lexer::{Sym, Token, TokenKind, Word};
-use sync_values::{ChainOp, Rel, Value};
+use sync_values::{Rel, Value};
 
+/// Whether a token is this symbol.
 #[tactic(auto, unfolding(crate::specs::grammar::Kinds::is_symbol, crate::specs::grammar::Kinds::same_symbol))]
 pub fn is_symbol(token: Token, symbol: Sym) -> bool
     ensures { result ≡ spec.is_symbol symbol token }
@@ -16,6 +18,7 @@ pub fn is_symbol(token: Token, symbol: Sym) -> bool
     }
 }
 
+/// Whether a token is this keyword.
 #[tactic(auto, unfolding(crate::specs::grammar::Kinds::is_word, crate::specs::grammar::Kinds::same_word))]
 pub fn is_word(token: Token, word: Word) -> bool
     ensures { result ≡ spec.is_word word token }
@@ -26,24 +29,20 @@ pub fn is_word(token: Token, word: Word) -> bool
     }
 }
 
+/// Whether a token is an `Ident`.
 #[tactic(auto, unfolding(crate::specs::grammar::Kinds::is_ident))]
 pub fn is_ident(token: Token) -> bool
     ensures { result ≡ spec.is_ident token }
 {
-    match token.kind {
-        TokenKind::Ident => true,
-        _ => false,
-    }
+    matches!(token.kind, TokenKind::Ident)
 }
 
+/// Whether a token is a `Text`.
 #[tactic(auto, unfolding(crate::specs::grammar::Kinds::is_text))]
 pub fn is_text(token: Token) -> bool
     ensures { result ≡ spec.is_text token }
 {
-    match token.kind {
-        TokenKind::Text => true,
-        _ => false,
-    }
+    matches!(token.kind, TokenKind::Text)
 }
 
 /// The value of a literal.
@@ -59,6 +58,7 @@ pub fn literal_of(token: Token) -> Option<Value>
     }
 }
 
+/// The relation that a token is.
 #[tactic(auto, unfolding(crate::specs::grammar::Kinds::relation_of))]
 pub fn relation_of(token: Token) -> Option<Rel>
     ensures { result ≡ spec.relation_of token }
@@ -74,79 +74,37 @@ pub fn relation_of(token: Token) -> Option<Rel>
     }
 }
 
-#[tactic(auto, unfolding(crate::specs::grammar::Kinds::or_of))]
-pub fn or_of(token: Token) -> Option<ChainOp>
-    ensures { result ≡ spec.or_of token }
-{
-    match token.kind {
-        TokenKind::Keyword(Word::KwOr) => Some(ChainOp::Or),
-        _ => None,
-    }
-}
-
-#[tactic(auto, unfolding(crate::specs::grammar::Kinds::and_of))]
-pub fn and_of(token: Token) -> Option<ChainOp>
-    ensures { result ≡ spec.and_of token }
-{
-    match token.kind {
-        TokenKind::Keyword(Word::KwAnd) => Some(ChainOp::And),
-        _ => None,
-    }
-}
-
-#[tactic(auto, unfolding(crate::specs::grammar::Kinds::sum_of))]
-pub fn sum_of(token: Token) -> Option<ChainOp>
-    ensures { result ≡ spec.sum_of token }
-{
-    match token.kind {
-        TokenKind::Symbol(Sym::Plus) => Some(ChainOp::Plus),
-        TokenKind::Symbol(Sym::Minus) => Some(ChainOp::Minus),
-        _ => None,
-    }
-}
-
-#[tactic(auto, unfolding(crate::specs::grammar::Kinds::product_of))]
-pub fn product_of(token: Token) -> Option<ChainOp>
-    ensures { result ≡ spec.product_of token }
-{
-    match token.kind {
-        TokenKind::Symbol(Sym::Times) => Some(ChainOp::Times),
-        TokenKind::Symbol(Sym::Over) => Some(ChainOp::Over),
-        _ => None,
-    }
-}
-
 /// Whether a token may stand in a note by itself, as no bracket and not the end.
 #[tactic(auto, unfolding(crate::specs::grammar::Kinds::is_plain))]
 pub fn is_plain(token: Token) -> bool
     ensures { result ≡ spec.is_plain token }
 {
-    match token.kind {
-        TokenKind::End => false,
-        TokenKind::Symbol(Sym::RoundOpen) => false,
-        TokenKind::Symbol(Sym::RoundClose) => false,
-        TokenKind::Symbol(Sym::CurlyOpen) => false,
-        TokenKind::Symbol(Sym::CurlyClose) => false,
-        TokenKind::Symbol(Sym::SquareOpen) => false,
-        TokenKind::Symbol(Sym::SquareClose) => false,
-        _ => true,
-    }
+    !matches!(
+        token.kind,
+        TokenKind::End
+            | TokenKind::Symbol(
+                Sym::RoundOpen
+                    | Sym::RoundClose
+                    | Sym::CurlyOpen
+                    | Sym::CurlyClose
+                    | Sym::SquareOpen
+                    | Sym::SquareClose
+            )
+    )
 }
 
 /// Whether a token begins a piece of a note.
-#[tactic(auto, unfolding(crate::specs::grammar::Kinds::begins_balanced))]
+#[tactic(auto, unfolding(crate::specs::reading::Starts::begins_balanced))]
 pub fn begins_balanced(token: Token) -> bool
-    ensures { result ≡ spec.begins_balanced token }
+    ensures { result ≡ starts.begins_balanced token }
 {
-    match token.kind {
-        TokenKind::End => false,
-        TokenKind::Symbol(Sym::RoundClose) => false,
-        TokenKind::Symbol(Sym::CurlyClose) => false,
-        TokenKind::Symbol(Sym::SquareClose) => false,
-        _ => true,
-    }
+    !matches!(
+        token.kind,
+        TokenKind::End | TokenKind::Symbol(Sym::RoundClose | Sym::CurlyClose | Sym::SquareClose)
+    )
 }
 
+/// The variability that a token is.
 #[tactic(auto, unfolding(crate::specs::grammar::Kinds::variability_of))]
 pub fn variability_of(token: Token) -> Option<Variability>
     ensures { result ≡ spec.variability_of token }
@@ -159,6 +117,7 @@ pub fn variability_of(token: Token) -> Option<Variability>
     }
 }
 
+/// The causality that a token is.
 #[tactic(auto, unfolding(crate::specs::grammar::Kinds::causality_of))]
 pub fn causality_of(token: Token) -> Option<Causality>
     ensures { result ≡ spec.causality_of token }
@@ -195,107 +154,80 @@ pub fn visibility_of(token: Token) -> Option<()>
     }
 }
 
-#[tactic(auto, unfolding(crate::specs::grammar::Kinds::begins_element))]
+/// Whether a token begins an element.
+#[tactic(auto, unfolding(crate::specs::reading::Starts::begins_element))]
 pub fn begins_element(token: Token) -> bool
-    ensures { result ≡ spec.begins_element token }
+    ensures { result ≡ starts.begins_element token }
 {
-    match token.kind {
-        TokenKind::Keyword(Word::KwParameter) => true,
-        TokenKind::Keyword(Word::KwConstant) => true,
-        TokenKind::Keyword(Word::KwDiscrete) => true,
-        TokenKind::Keyword(Word::KwInput) => true,
-        TokenKind::Keyword(Word::KwOutput) => true,
-        TokenKind::Ident => true,
-        _ => false,
-    }
+    matches!(
+        token.kind,
+        TokenKind::Ident
+            | TokenKind::Keyword(
+                Word::KwParameter
+                    | Word::KwConstant
+                    | Word::KwDiscrete
+                    | Word::KwInput
+                    | Word::KwOutput
+            )
+    )
 }
 
 /// Whether a token begins the left side of an equation.
-#[tactic(auto, unfolding(crate::specs::grammar::Kinds::begins_simple))]
+#[tactic(auto, unfolding(crate::specs::reading::Starts::begins_simple))]
 pub fn begins_simple(token: Token) -> bool
-    ensures { result ≡ spec.begins_simple token }
+    ensures { result ≡ starts.begins_simple token }
 {
-    match token.kind {
-        TokenKind::Symbol(Sym::Plus) => true,
-        TokenKind::Symbol(Sym::Minus) => true,
-        TokenKind::Symbol(Sym::RoundOpen) => true,
-        TokenKind::Keyword(Word::KwNot) => true,
-        TokenKind::Keyword(Word::KwTrue) => true,
-        TokenKind::Keyword(Word::KwFalse) => true,
-        TokenKind::Integer(_) => true,
-        TokenKind::Ident => true,
-        _ => false,
-    }
+    matches!(
+        token.kind,
+        TokenKind::Symbol(Sym::Plus | Sym::Minus | Sym::RoundOpen)
+            | TokenKind::Keyword(Word::KwNot | Word::KwTrue | Word::KwFalse)
+            | TokenKind::Integer(_)
+            | TokenKind::Ident
+    )
 }
 
-#[tactic(auto, unfolding(crate::specs::grammar::Kinds::begins_equation, crate::specs::grammar::Kinds::begins_simple))]
+/// Whether a token begins an equation.
+#[tactic(auto, unfolding(crate::specs::reading::Starts::begins_equation, crate::specs::reading::Starts::begins_simple))]
 pub fn begins_equation(token: Token) -> bool
-    ensures { result ≡ spec.begins_equation token }
+    ensures { result ≡ starts.begins_equation token }
 {
-    match token.kind {
-        TokenKind::Keyword(Word::KwWhen) => true,
-        TokenKind::Keyword(Word::KwConnect) => true,
-        _ => begins_simple(token),
-    }
+    matches!(
+        token.kind,
+        TokenKind::Keyword(Word::KwWhen | Word::KwConnect)
+    ) || begins_simple(token)
 }
 
-#[tactic(auto, unfolding(crate::specs::grammar::Kinds::begins_section))]
+/// Whether a token begins a section.
+#[tactic(auto, unfolding(crate::specs::reading::Starts::begins_section))]
 pub fn begins_section(token: Token) -> bool
-    ensures { result ≡ spec.begins_section token }
+    ensures { result ≡ starts.begins_section token }
 {
-    match token.kind {
-        TokenKind::Keyword(Word::KwPublic) => true,
-        TokenKind::Keyword(Word::KwProtected) => true,
-        TokenKind::Keyword(Word::KwEquation) => true,
-        _ => false,
-    }
+    matches!(
+        token.kind,
+        TokenKind::Keyword(Word::KwPublic | Word::KwProtected | Word::KwEquation)
+    )
 }
 
-#[tactic(auto, unfolding(crate::specs::grammar::Kinds::begins_class))]
+/// Whether a token begins a class.
+#[tactic(auto, unfolding(crate::specs::reading::Starts::begins_class))]
 pub fn begins_class(token: Token) -> bool
-    ensures { result ≡ spec.begins_class token }
+    ensures { result ≡ starts.begins_class token }
 {
-    match token.kind {
-        TokenKind::Keyword(Word::KwModel) => true,
-        TokenKind::Keyword(Word::KwBlock) => true,
-        TokenKind::Keyword(Word::KwClass) => true,
-        TokenKind::Keyword(Word::KwConnector) => true,
-        _ => false,
-    }
+    matches!(
+        token.kind,
+        TokenKind::Keyword(Word::KwModel | Word::KwBlock | Word::KwClass | Word::KwConnector)
+    )
 }
 
-/// The bytes of a token in its text, and none where the text is shorter.
-#[tactic(auto, unfolding(crate::specs::grammar::Kinds::spelling))]
-fn spelling(text: &[u8], token: Token) -> &[u8]
-    ensures { result.now ≡ spec.spelling text.now token }
-{
-    let at = token.at as usize;
-    let end = token.end as usize;
-    if at <= end && end <= text.len() {
-        return &text[at..end];
-    }
-    &[]
-}
-
-/// Whether two tokens are spelled alike.
-#[tactic(auto, unfolding(crate::specs::grammar::Kinds::same_name))]
-pub fn same_name(text: &[u8], a: Token, b: Token) -> bool
-    ensures { result ≡ spec.same_name text.now a b }
-{
-    spelling(text, a) == spelling(text, b)
-}
-
+/// Whether a token is the end.
 #[tactic(auto, unfolding(crate::specs::grammar::Kinds::is_end))]
 pub fn is_end(token: Token) -> bool
     ensures { result ≡ spec.is_end token }
 {
-    match token.kind {
-        TokenKind::End => true,
-        _ => false,
-    }
+    matches!(token.kind, TokenKind::End)
 }
 
-// A keyword of the language that the profile has no place for.
+/// A keyword of the language that the profile has no place for.
 fn foreign_word(word: Word) -> bool
     ensures { result ≡ spec.foreign_word word }
 {

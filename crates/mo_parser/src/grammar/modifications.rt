@@ -18,6 +18,7 @@ use mo_lexer::Sym;
 use std::alloc::Global;
 use sync_values::List;
 
+/// Reads modifications, where `args` reads the arguments one level deeper.
 #[derive(Clone, Copy)]
 pub struct Lists<F> {
     pub alloc: Global,
@@ -27,6 +28,7 @@ pub struct Lists<F> {
 }
 
 impl<F: Fn(Global, &mut Tokens<'_>, usize) -> Result<List<Arg>, Halt>> Lists<F> {
+    /// Arguments one level deeper.
     fn nested(&self, tokens: &mut Tokens<'_>) -> Result<List<Arg>, Halt>
         requires { NestsArgs self.now.depth (F.pre self.now.args) (F.post self.now.args) }
         ensures { Reads (spec.args self.now.depth tokens.old) result tokens.new }
@@ -34,6 +36,7 @@ impl<F: Fn(Global, &mut Tokens<'_>, usize) -> Result<List<Arg>, Halt>> Lists<F> 
         (self.args)(self.alloc, tokens, self.depth)
     }
 
+    /// `"=" expr`
     #[tactic(auto, unfolding(crate::specs::reading::Modifications::value))]
     fn value(&self, tokens: &mut Tokens<'_>) -> Result<TreeExpr, Halt>
         ensures { Reads (spec.value (expr self.now.depth) tokens.old) result tokens.new }
@@ -42,6 +45,7 @@ impl<F: Fn(Global, &mut Tokens<'_>, usize) -> Result<List<Arg>, Halt>> Lists<F> 
         whole_expr(self.alloc, tokens, self.depth)
     }
 
+    /// `[ "=" expr ]`
     fn some_value(&self, tokens: &mut Tokens<'_>) -> Result<Option<TreeExpr>, Halt>
         ensures { Reads (optional (kinds.is_symbol s.Equals) (spec.value (expr self.now.depth)) tokens.old) result tokens.new }
     {
@@ -52,6 +56,7 @@ impl<F: Fn(Global, &mut Tokens<'_>, usize) -> Result<List<Arg>, Halt>> Lists<F> 
         Ok(Some(value))
     }
 
+    /// `[ args ] ")"`
     #[tactic(auto, unfolding(crate::specs::reading::Modifications::in_brackets))]
     pub fn in_brackets(&self, tokens: &mut Tokens<'_>) -> Result<List<Arg>, Halt>
         requires { NestsArgs self.now.depth (F.pre self.now.args) (F.post self.now.args) }
@@ -65,6 +70,7 @@ impl<F: Fn(Global, &mut Tokens<'_>, usize) -> Result<List<Arg>, Halt>> Lists<F> 
         symbol(tokens, Sym::RoundClose).and(Ok(args))
     }
 
+    /// `[ "(" [ args ] ")" ] [ "=" expr ]`
     #[tactic(auto, unfolding(crate::specs::reading::Modifications::modification))]
     pub fn modification(&self, tokens: &mut Tokens<'_>) -> Result<Modification, Halt>
         requires { NestsArgs self.now.depth (F.pre self.now.args) (F.post self.now.args) }
@@ -83,6 +89,7 @@ impl<F: Fn(Global, &mut Tokens<'_>, usize) -> Result<List<Arg>, Halt>> Lists<F> 
         Ok(Modification { args, binding })
     }
 
+    /// `name [ modif ] [ texts ]`
     #[tactic(auto, unfolding(crate::specs::reading::Modifications::argument))]
     fn argument(&self, tokens: &mut Tokens<'_>) -> Result<Arg, Halt>
         requires { NestsArgs self.now.depth (F.pre self.now.args) (F.post self.now.args) }
@@ -97,6 +104,7 @@ impl<F: Fn(Global, &mut Tokens<'_>, usize) -> Result<List<Arg>, Halt>> Lists<F> 
         }))
     }
 
+    /// `"," arg`
     #[tactic(auto, unfolding(crate::specs::reading::Modifications::further_argument))]
     fn further_argument(
         &self,
@@ -112,6 +120,7 @@ impl<F: Fn(Global, &mut Tokens<'_>, usize) -> Result<List<Arg>, Halt>> Lists<F> 
         Ok(all)
     }
 
+    /// `{ "," arg }`
     #[tactic(auto, unfolding(crate::specs::reading::Outcomes::turns))]
     fn more_arguments(&self, tokens: &mut Tokens<'_>, mut all: List<Arg>) -> Result<List<Arg>, Halt>
         requires { NestsArgs self.now.depth (F.pre self.now.args) (F.post self.now.args) }
@@ -126,6 +135,7 @@ impl<F: Fn(Global, &mut Tokens<'_>, usize) -> Result<List<Arg>, Halt>> Lists<F> 
         Ok(all)
     }
 
+    /// `arg { "," arg }`
     #[tactic(auto, unfolding(crate::specs::reading::Modifications::arguments))]
     fn arguments(&self, tokens: &mut Tokens<'_>) -> Result<List<Arg>, Halt>
         requires { NestsArgs self.now.depth (F.pre self.now.args) (F.post self.now.args) }

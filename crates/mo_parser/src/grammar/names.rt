@@ -1,11 +1,12 @@
 //! Names and single tokens.
-ghost use Rattle.std.specs.Prelude.{◌≡◌};
-ghost use Rattle.mo_parser.specs.grammar.Names.{named, span_of};
+ghost use Rattle.std.specs.Prelude.{◌≡◌, IfOk, IfErr};
+ghost use Rattle.mo_parser.specs.grammar.Names.{named, same_name, span_of};
 ghost use Rattle.mo_parser.specs.reading.Outcomes.{Reads};
 ghost use Rattle.mo_parser.specs.reading.Names as spec;
 
 use super::kinds::{is_ident, is_symbol, is_text, is_word};
 use super::tokens::{Halt, Tokens};
+use crate::span::spelled;
 use crate::tree::{Path, Span};
 use mo_lexer::{Sym, Token, Word};
 use std::alloc::Global;
@@ -18,6 +19,7 @@ pub struct Named {
     pub span: Span,
 }
 
+/// This symbol.
 #[tactic(auto, unfolding(crate::specs::reading::Names::symbol))]
 pub fn symbol(tokens: &mut Tokens<'_>, wanted: Sym) -> Result<Token, Halt>
     ensures { Reads (spec.symbol wanted tokens.old) result tokens.new }
@@ -30,6 +32,7 @@ pub fn symbol(tokens: &mut Tokens<'_>, wanted: Sym) -> Result<Token, Halt>
     Ok(next)
 }
 
+/// This keyword.
 #[tactic(auto, unfolding(crate::specs::reading::Names::word))]
 pub fn word(tokens: &mut Tokens<'_>, wanted: Word) -> Result<Token, Halt>
     ensures { Reads (spec.word wanted tokens.old) result tokens.new }
@@ -42,6 +45,7 @@ pub fn word(tokens: &mut Tokens<'_>, wanted: Word) -> Result<Token, Halt>
     Ok(next)
 }
 
+/// `Ident`
 #[tactic(auto, unfolding(crate::specs::reading::Names::ident))]
 pub fn ident(tokens: &mut Tokens<'_>) -> Result<Token, Halt>
     ensures { Reads (spec.ident tokens.old) result tokens.new }
@@ -54,6 +58,7 @@ pub fn ident(tokens: &mut Tokens<'_>) -> Result<Token, Halt>
     Ok(next)
 }
 
+/// `Text`
 #[tactic(auto, unfolding(crate::specs::reading::Names::text))]
 pub fn text(tokens: &mut Tokens<'_>) -> Result<Token, Halt>
     ensures { Reads (spec.text tokens.old) result tokens.new }
@@ -66,6 +71,7 @@ pub fn text(tokens: &mut Tokens<'_>) -> Result<Token, Halt>
     Ok(next)
 }
 
+/// The bytes of a token.
 pub fn span_of(token: Token) -> Span
     ensures { result ≡ span_of token }
 {
@@ -75,6 +81,15 @@ pub fn span_of(token: Token) -> Span
     }
 }
 
+/// Whether two tokens are spelled alike.
+#[tactic(auto, unfolding(crate::specs::grammar::Names::same_name))]
+pub fn same_name(text: &[u8], a: Token, b: Token) -> bool
+    ensures { result ≡ same_name text.now a b }
+{
+    spelled(text, span_of(a)) == spelled(text, span_of(b))
+}
+
+/// A name of one part.
 fn first_part(alloc: Global, token: Token) -> Result<Named, Halt>
     ensures ok { IfOk result (λ n. n ≡ named token) }
     ensures err { IfErr result (λ e. e ≡ Halt.NoMemory) }
@@ -88,8 +103,7 @@ fn first_part(alloc: Global, token: Token) -> Result<Named, Halt>
     })
 }
 
-ghost use Rattle.std.specs.Prelude.{IfOk, IfErr};
-
+/// `"." Ident`
 #[tactic(auto, unfolding(crate::specs::reading::Names::dotted))]
 fn dotted(tokens: &mut Tokens<'_>, mut found: Named) -> Result<Named, Halt>
     ensures { Reads (spec.dotted found tokens.old) result tokens.new }
@@ -101,6 +115,7 @@ fn dotted(tokens: &mut Tokens<'_>, mut found: Named) -> Result<Named, Halt>
     Ok(found)
 }
 
+/// `Ident { "." Ident }`
 #[tactic(auto, unfolding(crate::specs::reading::Names::name, crate::specs::reading::Outcomes::turns))]
 pub fn name(alloc: Global, tokens: &mut Tokens<'_>) -> Result<Named, Halt>
     ensures { Reads (spec.name tokens.old) result tokens.new }

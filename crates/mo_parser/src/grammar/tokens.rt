@@ -43,6 +43,7 @@ impl<'a> Model for Tokens<'a> {
 }
 
 impl<'a> Tokens<'a> {
+    /// All of these tokens.
     pub fn new(left: &'a [Token]) -> Tokens<'a>
         ensures { result ≡ left.entry.now }
     {
@@ -63,6 +64,7 @@ impl<'a> Tokens<'a> {
         }
     }
 
+    /// Passes the next token.
     pub fn advance(&mut self)
         ensures { self.new ≡ tail self.old }
     {
@@ -71,6 +73,7 @@ impl<'a> Tokens<'a> {
         }
     }
 
+    /// How many tokens are left.
     pub fn count(&self) -> usize
         ensures { result ≡ length self.now }
     {

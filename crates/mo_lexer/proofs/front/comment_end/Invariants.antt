@@ -1,5 +1,5 @@
 use Rattle.std.proofs.Common.{◌<◌, ◌+◌, ℕ}
-use Rattle.mo_lexer.specs.Front.{HasEnd}
+use Rattle.mo_lexer.specs.private.Front.{HasEnd}
 use Rattle.mo_lexer.proofs.front.comment_end.Given as goal
 
 abbrev pub invariant-loop-at : goal.invariant-loop-at

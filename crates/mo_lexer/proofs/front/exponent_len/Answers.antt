@@ -1,6 +1,6 @@
 use Rattle.std.proofs.Common.{◌≡◌, ◌<◌, ◌+◌, ◌∙◌, ℕ, ap, sym, subst, rules, arith, length, drop, slice_index, true}
 use Rattle.mo_lexer.specs.Bytes.{is_exponent_letter}
-use Rattle.mo_lexer.specs.Front.{sign_len, HasExponent}
+use Rattle.mo_lexer.specs.private.Front.{sign_len, HasExponent}
 use Rattle.mo_lexer.proofs.Numbers.{digits, exponent_none, exponent}
 use Rattle.mo_lexer.proofs.front.exponent_len.Goals as goal
 

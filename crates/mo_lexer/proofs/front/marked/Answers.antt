@@ -1,5 +1,5 @@
 use Rattle.std.proofs.Common.{◌<◌, sym, subst, arith, length}
-use Rattle.mo_lexer.specs.Front.{BeginsWith}
+use Rattle.mo_lexer.specs.private.Front.{BeginsWith}
 use Rattle.mo_lexer.proofs.Symbols.{long_found, short_found, none_found}
 use Rattle.mo_lexer.proofs.front.marked.Goals as goal
 

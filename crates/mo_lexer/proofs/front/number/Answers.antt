@@ -2,7 +2,7 @@ use Rattle.std.proofs.Common.{◌≡◌, ◌<◌, ◌+◌, ◌∙◌, ℕ, List,
 use Rattle.mo_lexer.specs.Bytes.{is_digit}
 use Rattle.mo_lexer.specs.declared.piece.Piece.TheVariants as piece
 use Rattle.mo_lexer.specs.Tokens.{Begins}
-use Rattle.mo_lexer.specs.Front.{has_point, HasExponent}
+use Rattle.mo_lexer.specs.private.Front.{has_point, HasExponent}
 use Rattle.mo_lexer.proofs.Numbers.{digits, pointed_number, whole_number, scaled_number}
 use Rattle.mo_lexer.proofs.Pieces.{front_within}
 use Rattle.mo_lexer.proofs.front.number.Goals as goal

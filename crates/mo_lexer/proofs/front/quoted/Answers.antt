@@ -1,6 +1,6 @@
 use Rattle.std.proofs.Common.{arith, ap, ◌∙◌, length, length-drop}
 use Rattle.std.proofs.Common.{subst, List, Some}
-use Rattle.mo_lexer.specs.Front.{EndsText}
+use Rattle.mo_lexer.specs.private.Front.{EndsText}
 use Rattle.mo_lexer.proofs.Quotes.{quoted_text}
 use Rattle.mo_lexer.proofs.front.quoted.Goals as goal
 

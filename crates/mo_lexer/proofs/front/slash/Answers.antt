@@ -3,7 +3,7 @@ use Rattle.std.specs.List.{take_while}
 use Rattle.mo_lexer.specs.declared.piece.Piece.TheVariants as piece
 use Rattle.mo_lexer.specs.Bytes.{is_in_line}
 use Rattle.mo_lexer.specs.Tokens.{Begins}
-use Rattle.mo_lexer.specs.Front.{EndsComment}
+use Rattle.mo_lexer.specs.private.Front.{EndsComment}
 use Rattle.mo_lexer.proofs.Comments.{line_comment, block_comment, open_comment, lone_slash}
 use Rattle.mo_lexer.proofs.front.slash.Goals as goal
 

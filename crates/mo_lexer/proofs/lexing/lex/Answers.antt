@@ -2,7 +2,7 @@ use Rattle.std.proofs.Common.{◌≡◌, ◌+◌, ◌++◌, ◌∙◌, List, Som
 use Rattle.mo_lexer.specs.declared.token.Token.{Token}
 use Rattle.mo_lexer.specs.declared.token.TokenKind.TheVariants.{End}
 use Rattle.mo_lexer.specs.Tokens.{Divided, mark_len, ended}
-use Rattle.mo_lexer.specs.Front.{noted}
+use Rattle.mo_lexer.specs.private.Front.{noted}
 use Rattle.mo_lexer.proofs.Steps.{next_within, next_tokens, next_fault}
 use Rattle.mo_lexer.proofs.lexing.lex.Goals as goal
 

@@ -1,5 +1,5 @@
 use Rattle.std.proofs.Common.{◌≡◌, ◌-◌, length}
-use Rattle.mo_parser.specs.grammar.Kinds.{begins_balanced}
+use Rattle.mo_parser.specs.reading.Starts.{begins_balanced}
 use Rattle.mo_parser.specs.reading.Comments.{balanced, piece}
 use Rattle.mo_parser.specs.reading.Outcomes.{turns}
 use Rattle.mo_parser.proofs.grammar.comments.Pairs.more_pieces.Given as goal

@@ -1,8 +1,0 @@
-use Rattle.std.proofs.Common.{◌≡◌, ◌-◌, length}
-use Rattle.mo_parser.specs.grammar.Kinds.{or_of}
-use Rattle.mo_parser.specs.reading.Expressions.{expr, is_op, link, conj}
-use Rattle.mo_parser.specs.reading.Outcomes.{turns}
-use Rattle.mo_parser.proofs.grammar.expressions.Grammar.more_or_links.Given as goal
-
-abbrev pub invariant-loop-turn : goal.invariant-loop-turn
-invariant-loop-turn g l = turns (is_op or_of) (link or_of (conj (expr l.self.depth))) (length l.initial.tokens) l.initial.links l.initial.tokens ≡ turns (is_op or_of) (link or_of (conj (expr l.self.depth))) (l._turn-end - l._turn) l.links l.tokens
