@@ -1,4 +1,5 @@
 pub mod Asked
+pub mod Distinct
 pub mod Grouped
 pub mod Levels
 pub mod Naming

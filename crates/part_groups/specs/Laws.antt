@@ -1,12 +1,13 @@
 -- Laws of groups.
 use Rattle.std.specs.Prelude.{◌≡◌, ◌↔◌, ℕ, ◌+◌, ◌<◌, List, Some, slice_get, Contains}
 use Rattle.flat_model.specs.declared.equation.Equation.{Equation}
-use Rattle.flat_model.specs.Uses.{Use}
+use Rattle.flat_model.specs.Setting.{Setting}
+use Rattle.flat_model.specs.Uses.{Use, AreUses}
 use Rattle.moment_order.specs.declared.stage.Stage.{Stage}
 use Rattle.moment_order.specs.declared.stage.Stage.TheVariants.{Partition, Waiting}
 use Rattle.moment_order.specs.Stages.{uses_at}
 use Rattle.part_groups.specs.Groups.{AreGroups, AreJoined}
-use Rattle.part_groups.specs.Units.{unit_of}
+use Rattle.part_groups.specs.Units.{unit_of, AreDistinct}
 
 -- two units are of one group exactly where a chain of needs joins them
 abbrev pub GroupLaw : Type 0
@@ -26,3 +27,7 @@ abbrev pub UnitLaw : Type 0
 UnitLaw = (count : ℕ) (stages : List Stage) (uses : List Use)
     → ((k : ℕ) (entry : Use) → k < count → Contains (uses_at (Partition k) stages uses) entry → IsOfUnit count stages uses entry k)
     × ((j : ℕ) (entry : Use) → slice_get (uses_at Waiting stages uses) j ≡ Some entry → IsOfUnit count stages uses entry (count + j))
+
+-- the uses of a setting reach each a name of its own
+abbrev pub DistinctLaw : Type 0
+DistinctLaw = (s : Setting) (uses : List Use) → AreUses s uses → AreDistinct s.model uses

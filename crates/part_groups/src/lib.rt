@@ -10,4 +10,4 @@ mod law;
 mod units;
 
 pub use grouping::groups;
-pub use law::{group_law, one_grouping_law, unit_law};
+pub use law::{distinct_law, group_law, one_grouping_law, unit_law};
