@@ -7,7 +7,6 @@ use Rattle.flat_model.specs.declared.expression.Expr.{Expr}
 use Rattle.flat_model.specs.declared.model.FlatName.{FlatName}
 use Rattle.flat_model.specs.Assignment.{Assignment}
 use Rattle.flat_model.specs.Given.{Row, with_row, HasLastValue, HasReadIn, CanUse}
-use Rattle.flat_model.specs.Meets.{MeetsBefore}
 use Rattle.flat_model.specs.Occurrences.{converted_count}
 use Rattle.flat_model.specs.Runnable.{IsRunnable, IsSideClocked}
 use Rattle.flat_model.specs.Setting.{Setting, class_of_name, class_of_equation, clock_of, class_ticks}
@@ -18,7 +17,7 @@ use Rattle.moment_theory.proofs.Once.{one_use}
 use Rattle.moment_theory.proofs.Rows.{row_now, known_axis}
 use Rattle.moment_theory.proofs.Unknown.{known_where_ticks}
 use Rattle.side_theory.specs.Sides.{sided, IsSideUse, Counts}
-use Rattle.side_theory.specs.Typed.{IsTypedRow}
+use Rattle.side_theory.specs.Typed.{AreValuedBefore, IsTypedRow}
 use Rattle.side_theory.proofs.Sided.{side_clocked, side_classed, all_reads, side_reads, each_read}
 use Rattle.side_theory.proofs.Answering.{is_answer}
 use Rattle.first_failure.specs.Ready.{IsReadable, HasAllReads, IsLeftOut}
@@ -71,7 +70,7 @@ module _ (s : Setting) (uses : List Use) (runs : IsRunnable s) (are : AreUses s 
       reads = all_reads s A m entry.equation is.first entry.name side is.clause right_has;
     }
 
-    pub counts_ready : MeetsBefore s S m → IsTypedRow s row → Counts s S m row entry side class
+    pub counts_ready : AreValuedBefore s S m → IsTypedRow s row → Counts s S m row entry side class
     counts_ready meets typed = record {
       equation = own;
       name = use_is.name;

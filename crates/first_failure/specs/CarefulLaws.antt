@@ -2,7 +2,6 @@
 use Rattle.std.specs.Prelude.{◌≡◌, ◌≢◌, ℕ, ◌<◌, true, Bool, ℤ, List, [], ◌∷◌, ◌++◌, length, Option, Some, None, Contains}
 use Rattle.flat_model.specs.Assignment.{Assignment}
 use Rattle.flat_model.specs.Given.{Row, with_row}
-use Rattle.flat_model.specs.Meets.{MeetsBefore}
 use Rattle.flat_model.specs.Setting.{Setting, class_ticks}
 use Rattle.flat_model.specs.Uses.{Use, Reads}
 use Rattle.moment_theory.specs.Free.{IsOrdered}
@@ -11,7 +10,7 @@ use Rattle.moment_theory.specs.Taken.{AreTaken}
 use Rattle.step_code.specs.Code.{Cells}
 use Rattle.step_code.specs.Lines.{Line}
 use Rattle.side_theory.specs.Kept.{IsSet, IsClockSet}
-use Rattle.side_theory.specs.Typed.{IsTypedRow}
+use Rattle.side_theory.specs.Typed.{AreValuedBefore, IsTypedRow}
 use Rattle.part_stretches.specs.Parts.{AreAlike}
 use Rattle.part_stretches.specs.Running.{tick_in}
 use Rattle.first_failure.specs.declared.careful.LoneLine.{LoneLine}
@@ -57,9 +56,9 @@ pub record AreMarked (s : Setting) (S : Assignment) (m : ℕ) (row : Row) (commo
   pub readable : (y c : ℕ) → (common 0).now y ≡ Some c → tick_in marks c ≡ true → IsReadable s S m row y
   pub marked : (y c : ℕ) → (common 0).now y ≡ Some c → IsReadable s S m row y → tick_in marks c ≡ true
 
--- a careful run starts over a row: the model is met before the moment, the row is typed and sound and has no value of the uses, cells are set, and readable ones are marked
+-- a careful run starts over a row: names have values before the moment, the row is typed and sound and has no value of the uses, cells are set, and readable ones are marked
 pub record IsStart (s : Setting) (S : Assignment) (m : ℕ) (row : Row) (entries : List Use) (common : Cells) (t : ℕ) (cells : List ℤ) (marks : List Bool) : Type 0 where
-  pub meets : MeetsBefore s S m
+  pub meets : AreValuedBefore s S m
   pub typed : IsTypedRow s row
   pub sound : IsSound s (with_row S m row) m
   pub clear : IsClear entries row

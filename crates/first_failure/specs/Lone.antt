@@ -4,7 +4,6 @@ use Rattle.sync_values.specs.declared.value.Value.{Value}
 use Rattle.flat_model.specs.Assignment.{Assignment}
 use Rattle.flat_model.specs.Faults.{EquationFails}
 use Rattle.flat_model.specs.Given.{Row, with_row}
-use Rattle.flat_model.specs.Meets.{MeetsBefore}
 use Rattle.flat_model.specs.Setting.{Setting, class_ticks}
 use Rattle.flat_model.specs.Uses.{Use}
 use Rattle.moment_theory.specs.Free.{IsOrdered}
@@ -17,7 +16,7 @@ use Rattle.step_lines.specs.Stretches.{IsStretch, RunsLines}
 use Rattle.side_theory.specs.Kept.{IsLaidOut, IsSet, IsClockSet}
 use Rattle.side_theory.specs.Runs.{AreCelled, AreBooleans}
 use Rattle.side_theory.specs.Stretches.{AreLinesOf}
-use Rattle.side_theory.specs.Typed.{IsTypedRow}
+use Rattle.side_theory.specs.Typed.{AreValuedBefore, IsTypedRow}
 use Rattle.first_failure.specs.Ready.{HasAllReads}
 
 -- a stretch has the code of one line alone, that of a use of a class, with these cells
@@ -29,9 +28,9 @@ pub record IsLone (s : Setting) (uses : List Use) (class : ℕ) (entry : Use) (a
   pub booleans : AreBooleans s at
   pub laid : IsLaidOut at
 
--- a use is ready over a row, and the cells are set for it: the model is met before the moment, the row is typed and has no value of the use's name, the class ticks, and all that the use reads can be read
+-- a use is ready over a row, and the cells are set for it: names have values before the moment, the row is typed and has no value of the use's name, the class ticks, and all that the use reads can be read
 pub record IsSetFor (s : Setting) (S : Assignment) (m : ℕ) (row : Row) (class : ℕ) (entry : Use) (at : Cells) (t : ℕ) (cells : List ℤ) : Type 0 where
-  pub meets : MeetsBefore s S m
+  pub meets : AreValuedBefore s S m
   pub typed : IsTypedRow s row
   pub clear : row entry.name ≡ None
   pub ticks : class_ticks s (with_row S m row) (Some class) m ≡ true

@@ -6,13 +6,12 @@ use Rattle.flat_model.specs.declared.expression.Expr.{Expr}
 use Rattle.flat_model.specs.Assignment.{Assignment}
 use Rattle.flat_model.specs.Faults.{EquationFails}
 use Rattle.flat_model.specs.Given.{Row, with_row}
-use Rattle.flat_model.specs.Meets.{MeetsBefore}
 use Rattle.flat_model.specs.Runnable.{IsRunnable}
 use Rattle.flat_model.specs.Setting.{Setting, class_ticks, name_ticks}
 use Rattle.flat_model.specs.Uses.{Use, AreUses, Reads}
 use Rattle.moment_theory.specs.Taken.{Gives}
 use Rattle.side_theory.specs.Sides.{IsSideUse, Counts}
-use Rattle.side_theory.specs.Typed.{IsTypedRow}
+use Rattle.side_theory.specs.Typed.{AreValuedBefore, IsTypedRow}
 
 -- a name can be read over a row: it has a value there, or it rests and has its last value
 abbrev pub IsReadable : Setting → Assignment → ℕ → Row → ℕ → Type 0
@@ -31,6 +30,6 @@ pub record IsLeftOut (s : Setting) (uses : List Use) (S : Assignment) (m : ℕ) 
 abbrev pub ReadyLaw : Type 0
 ReadyLaw = (s : Setting) (uses : List Use) → IsRunnable s → AreUses s uses → (entry : Use) (side : Expr) (class : ℕ) → Contains uses entry → IsSideUse s entry side class
     → (S : Assignment) (m : ℕ) (row : Row)
-    → (MeetsBefore s S m → IsTypedRow s row → class_ticks s (with_row S m row) (Some class) m ≡ true → HasAllReads s S m row entry → Counts s S m row entry side class)
+    → (AreValuedBefore s S m → IsTypedRow s row → class_ticks s (with_row S m row) (Some class) m ≡ true → HasAllReads s S m row entry → Counts s S m row entry side class)
     × (class_ticks s (with_row S m row) (Some class) m ≡ false → IsLeftOut s uses S m row entry)
     × ((HasAllReads s S m row entry → ⊥) → IsLeftOut s uses S m row entry)

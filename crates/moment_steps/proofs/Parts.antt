@@ -41,6 +41,7 @@ use Rattle.tree_step.specs.declared.taking.Entry.{Entry}
 use Rattle.tree_step.specs.Cells.{cell_in}
 use Rattle.tree_step.specs.Frames.{now_in}
 use Rattle.tree_step.specs.Starts.{use_of, uses_of, IsAmong}
+use Rattle.side_theory.specs.Typed.{valued_before}
 use Rattle.partition_step.specs.declared.part.ClassKept.{ClassKept}
 use Rattle.partition_step.specs.declared.part.Outcome.{Outcome}
 use Rattle.partition_step.specs.declared.part.Outcome.TheVariants.{Stepped, Failed}
@@ -139,7 +140,7 @@ module _ (pure waiting : List Entry) (noted : UnclockedReads) (always : List Clo
           piece = is_piece s uses stages.pure stages.pieces stages.waiting between.moment.staged.are between.moment.staged.reach of waits i own piece_found;
           part_of = (between.based.slots_are i slot found).part_of;
           stands = between.based.stand i slot found;
-          meets = between.moment.meets;
+          meets = valued_before s A n between.moment.meets;
           typed = base_typed s uses stages.pure stages.pieces stages.waiting between.moment.staged.are A n at between.moment.here between.inputs between.are base between.taken;
           sound = base_sound s uses stages.pure stages.pieces stages.waiting between.moment.staged.are A n at between.moment.here between.inputs between.are base between.taken;
           clear = piece_clear s uses stages.pure stages.pieces stages.waiting between.moment.staged.are A n at between.moment.here between.inputs between.are base between.taken i own piece_found;

@@ -40,7 +40,7 @@ use Rattle.moment_steps.specs.Standing.{StandsBefore}
 use Rattle.moment_steps.specs.private.Opening.{opened_by, value_by}
 use Rattle.moment_steps.proofs.Copied.{copied}
 use Rattle.moment_steps.proofs.Rows.{reached_first, inputs_typed, inputs_sound, clear_at_first}
-use Rattle.moment_steps.proofs.Starting.{valued_within, OpenCell, open_cell, starts, LastSeen}
+use Rattle.moment_steps.proofs.Starting.{valued_within, OpenCell, open_cell, starts, were_met, LastSeen}
 
 among_member : (entries : List Entry) (e : Entry) → IsAmong e entries → IsMember (use_of e) (uses_of entries)
 among_member [] e among = absurd among
@@ -109,6 +109,7 @@ module _ (pure waiting : List Entry) (noted : UnclockedReads) (always : List Clo
       unclocked = λ entry among. (before.stands.settled.pure_plain entry among).unclocked;
       reads_are = subst (λ flat. AreReadsOf flat.equations pure noted.pure) (sym before.model_is.flat) before.stands.settled.pure_reads;
       left_is = record { first = before.stands.left_is.first; later = before.stands.left_is.now };
+      were_met = were_met s A n pure before.moment.meets (λ entry among. (before.stands.settled.pure_plain entry among).unclocked);
     }
 
     module _ (taken : List Cell) (told : Option EquationFailing) (takes : TakesUses (record { equations = model.flat.equations; places = numbers; left = left; clocks = always }) pure shown taken told) (size : length taken ≡ length shown)

@@ -47,6 +47,7 @@ use Rattle.tree_step.specs.Cells.{cell_in}
 use Rattle.tree_step.specs.Changed.{AreReadsOf, CanStartChanged}
 use Rattle.tree_step.specs.Starts.{uses_of, IsAmong, StandsAs, AreSitesApart, IsStart}
 use Rattle.tree_step.specs.Takes.{TakesUses, HasTaken}
+use Rattle.side_theory.specs.Typed.{valued_at}
 use Rattle.partition_step.specs.Parts.{IsPartOf, StandsFor}
 use Rattle.partition_step.specs.Steps.{Telling, GoesOnWith, CanStep}
 use Rattle.partition_step.specs.private.Writing.{IsWritten}
@@ -67,7 +68,7 @@ use Rattle.moment_steps.proofs.Parted.{SlotRow, slot_row, owns, owns_is, alone, 
 use Rattle.moment_steps.proofs.Parts.{Based-on, telling, answer_flat, of, can_step}
 use Rattle.moment_steps.proofs.Pure.{outside}
 use Rattle.moment_steps.proofs.Rows.{reached_first, reached_second, member_front, member_back, row_typed, row_sound, row_clear, ordered_behind, same_site, same_ticks, site_not_waiting}
-use Rattle.moment_steps.proofs.Starting.{valued_within, OpenCell, open_cell, starts, LastSeen, stands_as}
+use Rattle.moment_steps.proofs.Starting.{valued_within, OpenCell, open_cell, starts, were_met, LastSeen, stands_as}
 
 module _ (pure waiting : List Entry) (noted : UnclockedReads) (always : List ClockNow) (numbers : List ℕ) (cells : List Cell) (ticked : List Bool) (places : List ℕ) (slots : List (Slot Piece)) (left : Left)
     (model_now : ClockedModel) (at : Moment) (ticks : ℕ → Bool) (answers : List (Option Bool)) (now : Values) (told : List Bool) (tells : IsWritten (λ class old. ticks class) ticked told) where
@@ -183,6 +184,7 @@ module _ (pure waiting : List Entry) (noted : UnclockedReads) (always : List Clo
       unclocked = λ entry among. (between.based.settled.waiting_plain entry among).unclocked;
       reads_are = subst (λ flat. AreReadsOf flat.equations waiting noted.waiting) (sym between.model_is.flat) between.based.settled.waiting_reads;
       left_is = record { first = between.based.left_is.first; later = between.based.left_is.now };
+      were_met = were_met s A n waiting between.moment.meets (λ entry among. (between.based.settled.waiting_plain entry among).unclocked);
     }
 
     module _ (taken : List Cell) (behind : Option EquationFailing) (takes : TakesUses (record { equations = model_now.flat.equations; places = numbers; left = left; clocks = always }) waiting shown taken behind) (size : length taken ≡ length shown)
@@ -290,7 +292,7 @@ module _ (pure waiting : List Entry) (noted : UnclockedReads) (always : List Clo
             goes_on : GoesOnWith s of_slot.own A n of_slot.row telling_now T
             goes_on = record {
               agrees = λ x k lt. sym (row_before A n end x k lt);
-              meets = meets;
+              meets = valued_at s T n meets;
               values = values_end;
               ticks = λ class. t.ticks_are class ∙ ticks_end (Some class);
             }

@@ -28,7 +28,7 @@ use Rattle.flat_model.specs.Uses.{Use, SiteReads}
 use Rattle.flat_model.specs.WholeTyping.{IsTyped}
 use Rattle.flat_model.proofs.Links.{asked_bare, asked_last}
 use Rattle.flat_model.proofs.Sites.{SameSiteOf, still_known}
-use Rattle.side_theory.specs.Typed.{IsTypedRow}
+use Rattle.side_theory.specs.Typed.{IsTypedRow, valued_before}
 use Rattle.moment_theory.specs.Free.{IsOrdered, IsReachedBy, AsksClass, AsksLast, AsksLastIn}
 use Rattle.moment_theory.specs.Sound.{IsSound, IsClear}
 use Rattle.moment_theory.proofs.FromRunnable.{all_at, facts_of}
@@ -42,6 +42,7 @@ use Rattle.tree_step.specs.declared.cell.Standing.TheVariants.{Ticks, Rests, Unk
 use Rattle.tree_step.specs.declared.frame.ClockNow.{ClockNow}
 use Rattle.tree_step.specs.declared.taking.Entry.{Entry}
 use Rattle.tree_step.specs.Cells.{cell_in}
+use Rattle.tree_step.specs.Changed.{WereMet}
 use Rattle.tree_step.specs.Starts.{Sight, use_of, uses_of, IsAmong, HasCell, KeepsLast, StandsAs, IsClockTold, IsSideSeen, AreSidesSeen, IsEntry, AreSitesApart, IsStart}
 use Rattle.tree_step.proofs.Plain.{left_asks}
 use Rattle.partition_step.specs.private.Writing.{IsWritten}
@@ -193,7 +194,7 @@ module _ (s : Setting) (uses before after : List Use) (entries : List Entry) (or
     pub starts : IsStart s uses before after S m (value_in now) sight entries cells
     starts = record {
       ordered = ordered;
-      meets = meets;
+      meets = valued_before s S m meets;
       typed = typed;
       sound = sound;
       clear = clear;
@@ -202,6 +203,11 @@ module _ (s : Setting) (uses before after : List Use) (entries : List Entry) (or
       holds = open_holds s pure waiting noted always numbers settled left.last now standings old cells wide opens;
       each = entry_is;
     }
+
+-- the equations of unclocked uses were met at the moment before, as all were
+pub were_met : (s : Setting) (S : Assignment) (m : ℕ) (entries : List Entry) → MeetsBefore s S m → ((entry : Entry) → IsAmong entry entries → class_of_equation s entry.equation ≡ None) → WereMet s S m entries
+were_met s S m entries meets unclocked entry equation k among found later =
+    (meets k (omega (arith, later))).equations entry.equation equation found (ap (λ class. class_ticks s S class k) (unclocked entry among))
 
 -- ---- how clocks stand
 

@@ -12,11 +12,10 @@ use Rattle.flat_model.specs.Asks.{AsksFor, OfNow, OfLast}
 use Rattle.flat_model.specs.Assignment.{Assignment, previous_value}
 use Rattle.flat_model.specs.Given.{Row, with_row}
 use Rattle.flat_model.specs.Intervals.{IsInRange}
-use Rattle.flat_model.specs.Meets.{MeetsAt, MeetsBefore}
 use Rattle.flat_model.specs.Moments.{IsRising, moment_at}
 use Rattle.flat_model.specs.Setting.{Setting, flattened, start_of, site_answer, class_ticks, name_ticks}
 use Rattle.flat_model.specs.Uses.{Use}
-use Rattle.side_theory.specs.Typed.{IsTypedRow}
+use Rattle.side_theory.specs.Typed.{AreValuedAt, AreValuedBefore, IsTypedRow}
 use Rattle.moment_theory.specs.Free.{IsReachedBy}
 use Rattle.moment_theory.specs.Going.{AgreeBefore}
 use Rattle.moment_theory.specs.Sound.{IsSound, IsClear}
@@ -66,7 +65,7 @@ pub record IsStepStart (s : Setting) (uses before own after : List Use) (partiti
   pub piece : IsPiece s uses before own after partition
   pub part_of : IsPartOf s own telling.places part
   pub stands : StandsFor s S m part
-  pub meets : MeetsBefore s S m
+  pub meets : AreValuedBefore s S m
   pub typed : IsTypedRow s base
   pub sound : IsSound s (with_row S m base) m
   pub clear : IsClear own base
@@ -81,7 +80,7 @@ failing_in (Failed failing) = Some failing
 -- T goes on from S at m with the values of a row for the part's names, and the classes that were told tick
 pub record GoesOnWith (s : Setting) (own : List Use) (S : Assignment) (m : ℕ) (row : Row) (telling : Telling) (T : Assignment) : Type 0 where
   pub agrees : AgreeBefore S T m
-  pub meets : MeetsAt s T m
+  pub meets : AreValuedAt s T m
   pub values : (x : ℕ) → IsReachedBy x own → T x m ≡ row x
   pub ticks : (class : ℕ) → telling.ticks class ≡ class_ticks s T (Some class) m
 

@@ -16,7 +16,7 @@ use Rattle.flat_model.specs.Asks.{Asking, OfNow, OfLast, OfPrevious, OfFirst, Of
 use Rattle.flat_model.specs.Assignment.{Assignment, IsOfKind, tick_before, value_at_tick}
 use Rattle.flat_model.specs.Given.{Row, with_row, HasLastValue, HasReadsBut, CanUse}
 use Rattle.flat_model.specs.Meaning.{value_of}
-use Rattle.flat_model.specs.Meets.{HasValueAtTicks, MeetsBefore}
+use Rattle.flat_model.specs.Meets.{HasValueAtTicks}
 use Rattle.flat_model.specs.Models.{IsName}
 use Rattle.flat_model.specs.Occurrences.{held_count, converted_count}
 use Rattle.flat_model.specs.Operators.{Answer, Is, Fails, Absent, read}
@@ -33,7 +33,7 @@ use Rattle.flat_model.proofs.WholeTypes.{whole_typed}
 use Rattle.moment_theory.proofs.FromRunnable.{all_at}
 use Rattle.moment_theory.proofs.Rows.{row_now, row_before, unclocked_at_first}
 use Rattle.side_theory.specs.Sides.{sided, IsSideUse, IsAnswerOfKind}
-use Rattle.side_theory.specs.Typed.{IsTypedRow}
+use Rattle.side_theory.specs.Typed.{AreValuedBefore, IsTypedRow}
 use Rattle.side_theory.proofs.Sided.{side_clocked, side_typed, side_has}
 use Rattle.side_theory.proofs.Side.{SideFacts, side_facts}
 
@@ -94,7 +94,7 @@ name_of s y type e = by_name (slice_get s.model.names y) refl e
     by_name None found e = absurd (none-some type e)
     by_name (Some name) found e = by_kind name found name.kind refl e
 
-module _ (s : Setting) (runs : IsRunnable s) (S : Assignment) (m : ℕ) (row : Row) (meets : MeetsBefore s S m) (typed_row : IsTypedRow s row) where
+module _ (s : Setting) (runs : IsRunnable s) (S : Assignment) (m : ℕ) (row : Row) (meets : AreValuedBefore s S m) (typed_row : IsTypedRow s row) where
   abbrev A : Assignment
   A = with_row S m row
 
@@ -203,7 +203,7 @@ module _ (s : Setting) (runs : IsRunnable s) (S : Assignment) (m : ℕ) (row : R
         (typed_value (types_in s.model.names) side type (views_at s A (class_of_equation s entry.equation) m) typed_at (whole_typed (types_in s.model.names) side type right))
 
 pub is_answer : (s : Setting) (uses : List Use) → IsRunnable s → AreUses s uses → (entry : Use) (side : Expr) (class : ℕ) → Contains uses entry → IsSideUse s entry side class
-    → (S : Assignment) (m : ℕ) (row : Row) → MeetsBefore s S m → IsTypedRow s row → (equation : Equation) (name : FlatName) → CanUse s (with_row S m row) m entry equation name
+    → (S : Assignment) (m : ℕ) (row : Row) → AreValuedBefore s S m → IsTypedRow s row → (equation : Equation) (name : FlatName) → CanUse s (with_row S m row) m entry equation name
     → IsAnswerOfKind name.kind (value_of side (views_at s (with_row S m row) (Some class) m))
 is_answer s uses runs are entry side class used is S m row meets typed equation name can =
     subst (λ c. IsAnswerOfKind name.kind (value_of side (views_at s (with_row S m row) c m))) is.class_is

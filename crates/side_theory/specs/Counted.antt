@@ -3,14 +3,13 @@ use Rattle.std.specs.Prelude.{◌≡◌, ℕ, true, List, ◌++◌, Some, IsSome
 use Rattle.flat_model.specs.Asks.{Asking}
 use Rattle.flat_model.specs.Assignment.{Assignment}
 use Rattle.flat_model.specs.Given.{Row, with_row}
-use Rattle.flat_model.specs.Meets.{MeetsBefore}
 use Rattle.flat_model.specs.Setting.{Setting, class_of_name, class_ticks, name_ticks, partition_of, views_at}
 use Rattle.flat_model.specs.Uses.{Use}
 use Rattle.moment_theory.specs.Free.{IsReachedBy, IsOrdered}
 use Rattle.step_code.specs.Lines.{Line, Ended, All, lines_end}
 use Rattle.moment_theory.specs.Taken.{AreTaken}
 use Rattle.flat_model.specs.Views.{Views}
-use Rattle.side_theory.specs.Typed.{IsTypedRow}
+use Rattle.side_theory.specs.Typed.{AreValuedBefore, IsTypedRow}
 use Rattle.side_theory.specs.Stretches.{AreLinesOf, AreCounted, AreShown, IsSameAt}
 
 -- over a row each name of a class's base partition that these uses reach has a value, where it ticks
@@ -18,9 +17,9 @@ abbrev pub HasAllOf : Setting → Assignment → ℕ → Row → ℕ → List Us
 HasAllOf s S m row class uses = (y : ℕ) → IsReachedBy y uses → partition_of s (class_of_name s y) ≡ partition_of s (Some class)
     → name_ticks s (with_row S m row) y m ≡ true → IsSome (row y)
 
--- what a stretch of a class begins with: the model is met before the moment, the row is typed, it has all values of the base partition that the uses before can give, and the class ticks
+-- what a stretch of a class begins with: names have values before the moment, the row is typed, it has all values of the base partition that the uses before can give, and the class ticks
 pub record Begins (s : Setting) (S : Assignment) (m : ℕ) (row : Row) (class : ℕ) (before : List Use) : Type 0 where
-  pub meets : MeetsBefore s S m
+  pub meets : AreValuedBefore s S m
   pub typed : IsTypedRow s row
   pub all : HasAllOf s S m row class before
   pub ticks : class_ticks s (with_row S m row) (Some class) m ≡ true

@@ -21,7 +21,7 @@ use Rattle.flat_model.specs.Assignment.{Assignment, IsOfKind}
 use Rattle.flat_model.specs.Evaluation.{answer_of}
 use Rattle.flat_model.specs.Given.{Row, with_row, with_value, CanUse, Solves as solves_at}
 use Rattle.flat_model.specs.Meaning.{seen_by, value_of}
-use Rattle.flat_model.specs.Meets.{HasOneValue, MeetsBefore}
+use Rattle.flat_model.specs.Meets.{HasOneValue}
 use Rattle.flat_model.specs.Occurrences.{bare_count, is_reached}
 use Rattle.flat_model.specs.Operators.{Is}
 use Rattle.flat_model.specs.Parts.{parts_beside, beside_of, way_to, kind_of}
@@ -52,7 +52,7 @@ use Rattle.moment_theory.proofs.Stands.{stands_bare}
 use Rattle.moment_theory.proofs.Unknown.{site_same}
 use Rattle.side_theory.specs.Sides.{DoesAs}
 use Rattle.side_theory.specs.Stretches.{IsSameAt}
-use Rattle.side_theory.specs.Typed.{IsTypedRow}
+use Rattle.side_theory.specs.Typed.{AreValuedBefore, IsTypedRow}
 use Rattle.solved_use.specs.Solving.{ShowsBut, ShowsEquation, CanSolve}
 use Rattle.solved_use.proofs.Shapes.{Shape, value_shape}
 use Rattle.solved_use.proofs.Beside.{TypedBut, value_without, present_seen, side_present}
@@ -199,7 +199,7 @@ module _ (s : Setting) (uses : List Use) (runs : IsRunnable s) (are : AreUses s 
       let formed = facts.formed i of.left of.right of.clause of.found in
       ((sym (same_formed of.left) ∙ formed.0, clocked.0.plain), (sym (same_formed of.right) ∙ formed.1, clocked.1.plain))
 
-  module _ (S : Assignment) (m : ℕ) (row : Row) (meets : MeetsBefore s S m) (typed_row : IsTypedRow s row) (name : FlatName) (can : CanUse s (with_row S m row) m entry own name)
+  module _ (S : Assignment) (m : ℕ) (row : Row) (meets : AreValuedBefore s S m) (typed_row : IsTypedRow s row) (name : FlatName) (can : CanUse s (with_row S m row) m entry own name)
       (views : Views) (shows_left : ShowsBut s S m row class x views of.left) (shows_right : ShowsBut s S m row class x views of.right) where
     abbrev A : Assignment
     A = with_row S m row
@@ -353,7 +353,7 @@ module _ (s : Setting) (uses : List Use) (runs : IsRunnable s) (are : AreUses s 
     }
 
 pub solves_use : (s : Setting) (uses : List Use) → IsRunnable s → AreUses s uses → (entry : Use) → Contains uses entry → WaitsForNoOwn s entry
-    → (S : Assignment) (m : ℕ) (row : Row) → MeetsBefore s S m → IsTypedRow s row → (equation : Equation) (name : FlatName) → CanUse s (with_row S m row) m entry equation name
+    → (S : Assignment) (m : ℕ) (row : Row) → AreValuedBefore s S m → IsTypedRow s row → (equation : Equation) (name : FlatName) → CanUse s (with_row S m row) m entry equation name
     → (views : Views) → ShowsEquation s S m row (class_of_equation s entry.equation) entry.name views equation
     → CanSolve entry.name equation views × ((result : Result Value Fail) → Solves entry.name equation views result → DoesAs s uses S m row entry (answer_of result))
 solves_use s uses runs are entry used waits S m row meets typed_row equation name can views shows =

@@ -11,7 +11,7 @@ use Rattle.flat_model.specs.declared.model.NameKind.TheVariants as kind
 use Rattle.flat_model.specs.Asks.{Asking, OfNow, OfLast, OfPrevious, OfFirst, OfInterval, asked, IsSampled}
 use Rattle.flat_model.specs.Assignment.{Assignment, IsOfKind, tick_before, value_at_tick}
 use Rattle.flat_model.specs.Given.{Row, with_row, HasLastValue, HasReadIn, IsKnownToTick}
-use Rattle.flat_model.specs.Meets.{HasValueAtTicks, MeetsBefore}
+use Rattle.flat_model.specs.Meets.{HasValueAtTicks}
 use Rattle.flat_model.specs.Models.{IsName}
 use Rattle.flat_model.specs.Occurrences.{held_count, converted_count}
 use Rattle.flat_model.specs.Operators.{read}
@@ -26,7 +26,7 @@ use Rattle.moment_theory.specs.Free.{AsksLastIn}
 use Rattle.moment_theory.proofs.FromRunnable.{all_at}
 use Rattle.moment_theory.proofs.Placed.{left_unsampled}
 use Rattle.moment_theory.proofs.Rows.{row_now, row_before, unclocked_at_first}
-use Rattle.side_theory.specs.Typed.{IsTypedRow}
+use Rattle.side_theory.specs.Typed.{AreValuedBefore, IsTypedRow}
 use Rattle.side_theory.proofs.Answering.{at_tick_before, less_or}
 use Rattle.solved_use.proofs.Beside.{TypedBut}
 
@@ -61,7 +61,7 @@ name_of s y type e = by_name (slice_get s.model.names y) refl e
     by_name None found e = absurd (none-some type e)
     by_name (Some name) found e = by_kind name found name.kind refl e
 
-module _ (s : Setting) (runs : IsRunnable s) (S : Assignment) (m : ℕ) (row : Row) (meets : MeetsBefore s S m) (typed_row : IsTypedRow s row) where
+module _ (s : Setting) (runs : IsRunnable s) (S : Assignment) (m : ℕ) (row : Row) (meets : AreValuedBefore s S m) (typed_row : IsTypedRow s row) where
   abbrev A : Assignment
   A = with_row S m row
 

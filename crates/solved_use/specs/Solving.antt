@@ -11,7 +11,6 @@ use Rattle.flat_model.specs.Assignment.{Assignment}
 use Rattle.flat_model.specs.Evaluation.{answer_of}
 use Rattle.flat_model.specs.Given.{Row, with_row, CanUse}
 use Rattle.flat_model.specs.Meaning.{seen_by}
-use Rattle.flat_model.specs.Meets.{MeetsBefore}
 use Rattle.flat_model.specs.Parts.{parts_beside}
 use Rattle.flat_model.specs.Runnable.{IsRunnable}
 use Rattle.flat_model.specs.Setting.{Setting, class_of_equation, views_at}
@@ -21,7 +20,7 @@ use Rattle.eq_orient.specs.Solving.{ArePresent, AreWellMade, Solves}
 use Rattle.moment_theory.specs.Sound.{WaitsForNoOwn}
 use Rattle.side_theory.specs.Sides.{DoesAs}
 use Rattle.side_theory.specs.Stretches.{IsSameAt}
-use Rattle.side_theory.specs.Typed.{IsTypedRow}
+use Rattle.side_theory.specs.Typed.{AreValuedBefore, IsTypedRow}
 
 -- views show all that an expression asks for as it is over a row, but the value of one name now
 abbrev pub ShowsBut : Setting → Assignment → ℕ → Row → Option ℕ → ℕ → Views → Expr → Type 0
@@ -41,6 +40,6 @@ pub record CanSolve (x : ℕ) (equation : Equation) (views : Views) : Type 0 whe
 -- a use that counts can be solved over views that show what its equation asks for, and does over the row what the solution tells
 abbrev pub SolvingLaw : Type 0
 SolvingLaw = (s : Setting) (uses : List Use) → IsRunnable s → AreUses s uses → (entry : Use) → Contains uses entry → WaitsForNoOwn s entry
-    → (S : Assignment) (m : ℕ) (row : Row) → MeetsBefore s S m → IsTypedRow s row → (equation : Equation) (name : FlatName) → CanUse s (with_row S m row) m entry equation name
+    → (S : Assignment) (m : ℕ) (row : Row) → AreValuedBefore s S m → IsTypedRow s row → (equation : Equation) (name : FlatName) → CanUse s (with_row S m row) m entry equation name
     → (views : Views) → ShowsEquation s S m row (class_of_equation s entry.equation) entry.name views equation
     → CanSolve entry.name equation views × ((result : Result Value Fail) → Solves entry.name equation views result → DoesAs s uses S m row entry (answer_of result))

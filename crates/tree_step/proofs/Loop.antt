@@ -77,5 +77,5 @@ module _ (sight : Sight) (entries : List Entry) (first cells : List Cell) (told 
   unfolding plain_start
   next_again reads can d within own own_found v unchanged before =
       let left = next_left (plain_start sight entries reads first can) d within in
-      gives_again can.s can.uses can.before can.after can.S can.m can.base sight entries first can.start can.unclocked can.left_is (get_or entries i d) (drop (suc i) entries) left.row cells left.turn own
+      gives_again can.s can.uses can.before can.after can.S can.m can.base sight entries first can.start can.unclocked can.left_is can.were_met (get_or entries i d) (drop (suc i) entries) left.row cells left.turn own
       (λ equation found. can.reads_are i (get_or entries i d) own equation (slice_get-get_or entries i d within) own_found found) unchanged v before

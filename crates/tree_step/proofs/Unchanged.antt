@@ -11,7 +11,7 @@ use Rattle.flat_model.specs.Answers.{value_in}
 use Rattle.flat_model.specs.Asks.{Asking, OfNow, OfLast, OfPrevious, OfFirst, OfInterval, asked, IsSampled}
 use Rattle.flat_model.specs.Assignment.{Assignment, previous_value}
 use Rattle.flat_model.specs.Given.{Row, with_row}
-use Rattle.flat_model.specs.Meets.{HasOneValue, MeetsAt}
+use Rattle.flat_model.specs.Meets.{HasOneValue}
 use Rattle.flat_model.specs.Runnable.{IsSideClocked}
 use Rattle.flat_model.specs.Setting.{Setting, class_of_equation, start_of, class_ticks, name_ticks, views_at}
 use Rattle.flat_model.specs.Uses.{Use}
@@ -28,7 +28,7 @@ use Rattle.tree_step.specs.declared.cell.Cell.{Cell}
 use Rattle.tree_step.specs.declared.changed.Reads.{Reads}
 use Rattle.tree_step.specs.declared.taking.Entry.{Entry}
 use Rattle.tree_step.specs.Cells.{cell_in}
-use Rattle.tree_step.specs.Changed.{TellSide, TellReads, IsValuesBefore}
+use Rattle.tree_step.specs.Changed.{TellSide, TellReads, IsValuesBefore, WereMet}
 use Rattle.tree_step.specs.Frames.{now_in, last_by, last_in}
 use Rattle.tree_step.specs.Starts.{Sight, use_of, IsAmong, IsSideSeen, IsEntry, IsStart}
 use Rattle.tree_step.specs.private.Changed.{IsSame, IsResting, AreUnchanged}
@@ -48,7 +48,7 @@ not_true true e = absurd (false≢true e)
 not_true false e = refl
 
 module _ (s : Setting) (uses before after : List Use) (S : Assignment) (m : ℕ) (base : Row) (sight : Sight) (all : List Entry) (cells₀ : List Cell) (start : IsStart s uses before after S m base sight all cells₀)
-    (unclocked_all : (entry : Entry) → IsAmong entry all → class_of_equation s entry.equation ≡ None) (left_is : IsValuesBefore S m sight.left.now)
+    (unclocked_all : (entry : Entry) → IsAmong entry all → class_of_equation s entry.equation ≡ None) (left_is : IsValuesBefore S m sight.left.now) (were_met : WereMet s S m all)
     (e : Entry) (es : List Entry) (row : Row) (cells : List Cell) (turn : Turn s uses before after S m base sight all cells₀ start (e ∷ es) row cells)
     (reads : Reads) (tell : (equation : Equation) → slice_get sight.equations e.equation ≡ Some equation → TellReads equation reads) (unchanged : AreUnchanged sight cells e.name reads) where
   abbrev x : ℕ
@@ -154,22 +154,19 @@ module _ (s : Setting) (uses before after : List Use) (S : Assignment) (m : ℕ)
         by_asking OfFirst sampled some = absurd sampled
         by_asking OfInterval sampled some = absurd sampled
 
-    met : MeetsAt s S k
-    met = start.meets k (omega (arith, later))
-
     both_seen : IsSideSeen s S m base sight cells₀ is.clock of.left × IsSideSeen s S m base sight cells₀ is.clock of.right
     both_seen = seen s uses before after S m base sight all cells₀ start row cells turn.at e among
 
     solves : HasOneValue (with_now x v views) own
     solves =
-        let (c, left, right) = met.equations e.equation own of.found (ap (λ class. class_ticks s S class k) unclocked) in (
+        let (c, left, right) = were_met e own k among of.found later in (
           c,
           value_rests_on_asked of.left (with_now x v views) there (same_at of.left clocked.0 both_seen.0 told_sides.0) ∙ left,
           value_rests_on_asked of.right (with_now x v views) there (same_at of.right clocked.1 both_seen.1 told_sides.1) ∙ right,
         )
 
     fits : Fits v
-    fits = fits_at of.name.kind (name_ticks s S x k) (S x k) v (sym (left_is.later x k later) ∙ own_left) (met.names x of.name of.name_found)
+    fits = fits_at of.name.kind (name_ticks s S x k) (S x k) v (sym (left_is.later x k later) ∙ own_left) ((start.meets k (omega (arith, later))).names x of.name of.name_found)
 
     gives_later : SolvesBy sight cells e (Ok v)
     gives_later = record {

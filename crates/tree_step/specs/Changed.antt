@@ -8,7 +8,8 @@ use Rattle.flat_model.specs.Answers.{value_in}
 use Rattle.flat_model.specs.Asks.{AsksFor, OfNow, OfLast}
 use Rattle.flat_model.specs.Assignment.{Assignment}
 use Rattle.flat_model.specs.Given.{Row}
-use Rattle.flat_model.specs.Setting.{Setting, class_of_equation}
+use Rattle.flat_model.specs.Meets.{HasOneValue}
+use Rattle.flat_model.specs.Setting.{Setting, class_of_equation, views_at}
 use Rattle.flat_model.specs.Uses.{Use}
 use Rattle.tree_step.specs.declared.cell.Cell.{Cell}
 use Rattle.tree_step.specs.declared.changed.Reads.{Reads}
@@ -34,7 +35,11 @@ pub record IsValuesBefore (S : Assignment) (m : ℕ) (now : List (Option Value))
   pub first : (y : ℕ) → m ≡ 0 → value_in now y ≡ None
   pub later : (y k : ℕ) → m ≡ suc k → value_in now y ≡ S y k
 
--- uses that can be taken, all of unclocked equations, with what these read and the values at the moment before
+-- the equations of unclocked uses were met at the moment before
+abbrev pub WereMet : Setting → Assignment → ℕ → List Entry → Type 0
+WereMet s S m entries = (entry : Entry) (equation : Equation) (k : ℕ) → IsAmong entry entries → slice_get s.model.equations entry.equation ≡ Some equation → m ≡ suc k → HasOneValue (views_at s S (class_of_equation s entry.equation) k) equation
+
+-- uses that can be taken, all of unclocked equations that were met at the moment before, with what these read and the values of that moment
 pub record CanStartChanged (sight : Sight) (entries : List Entry) (reads : List Reads) (cells : List Cell) : Type 0 where
   pub s : Setting
   pub uses : List Use
@@ -47,3 +52,4 @@ pub record CanStartChanged (sight : Sight) (entries : List Entry) (reads : List 
   pub unclocked : (entry : Entry) → IsAmong entry entries → class_of_equation s entry.equation ≡ None
   pub reads_are : AreReadsOf sight.equations entries reads
   pub left_is : IsValuesBefore S m sight.left.now
+  pub were_met : WereMet s S m entries

@@ -9,13 +9,12 @@ use Rattle.flat_model.specs.Asks.{AsksFor, OfNow, OfLast, OfPrevious}
 use Rattle.flat_model.specs.Assignment.{Assignment, tick_before, previous_value}
 use Rattle.flat_model.specs.Given.{Row, with_row, IsKnown, IsKnownToTick}
 use Rattle.flat_model.specs.Intervals.{IsMeasurable}
-use Rattle.flat_model.specs.Meets.{MeetsBefore}
 use Rattle.flat_model.specs.Setting.{Setting, class_of_name, class_of_equation, clock_of, start_of, class_ticks, name_ticks, interval_at}
 use Rattle.flat_model.specs.Uses.{Use, SiteReads}
 use Rattle.eq_orient.specs.Spine.{IsSpineOf}
 use Rattle.moment_theory.specs.Free.{IsOrdered, IsReachedBy, AsksClass}
 use Rattle.moment_theory.specs.Sound.{IsSound, IsClear}
-use Rattle.side_theory.specs.Typed.{IsTypedRow}
+use Rattle.side_theory.specs.Typed.{AreValuedBefore, IsTypedRow}
 use Rattle.tree_step.specs.declared.cell.Cell.{Cell}
 use Rattle.tree_step.specs.declared.cell.Standing.{Standing}
 use Rattle.tree_step.specs.declared.cell.Standing.TheVariants.{Ticks, Rests, Unknown}
@@ -94,10 +93,10 @@ pub record IsEntry (s : Setting) (S : Assignment) (m : ℕ) (base : Row) (sight 
 abbrev pub AreSitesApart : Setting → List Use → List Entry → Type 0
 AreSitesApart s reached entries = (entry : Entry) (class : Option ℕ) (y : ℕ) → IsAmong entry entries → AsksClass s entry.equation class → SiteReads s class y → IsReachedBy y reached → ⊥
 
--- uses of a free order are taken from a row: the model is met before the moment, the row is typed, sound and without values of these uses, cells hold the row, and each entry is told
+-- uses of a free order are taken from a row: names have values before the moment, the row is typed, sound and without values of these uses, cells hold the row, and each entry is told
 pub record IsStart (s : Setting) (uses before after : List Use) (S : Assignment) (m : ℕ) (base : Row) (sight : Sight) (entries : List Entry) (cells : List Cell) : Type 0 where
   pub ordered : IsOrdered s uses (before ++ (uses_of entries ++ after))
-  pub meets : MeetsBefore s S m
+  pub meets : AreValuedBefore s S m
   pub typed : IsTypedRow s base
   pub sound : IsSound s (with_row S m base) m
   pub clear : IsClear (uses_of entries) base

@@ -7,18 +7,17 @@ use Rattle.flat_model.specs.declared.model.FlatName.{FlatName}
 use Rattle.flat_model.specs.Assignment.{Assignment}
 use Rattle.flat_model.specs.Given.{Row, with_row, CanUse}
 use Rattle.flat_model.specs.Meaning.{value_of}
-use Rattle.flat_model.specs.Meets.{MeetsBefore}
 use Rattle.flat_model.specs.Operators.{Is}
 use Rattle.flat_model.specs.Setting.{Setting, class_of_equation, views_at}
 use Rattle.flat_model.specs.Uses.{Use}
 use Rattle.moment_theory.specs.Taken.{Gives}
 use Rattle.step_code.specs.Lines.{Line}
 use Rattle.side_theory.specs.Sides.{IsAnswerOfKind}
-use Rattle.side_theory.specs.Typed.{IsTypedRow}
+use Rattle.side_theory.specs.Typed.{AreValuedBefore, IsTypedRow}
 
--- a use counts over a typed row, where the model is met before the moment
+-- a use counts over a typed row, where names have values before the moment
 pub record IsCounted (s : Setting) (S : Assignment) (m : ℕ) (row : Row) (entry : Use) : Type 0 where
-  pub meets : MeetsBefore s S m
+  pub meets : AreValuedBefore s S m
   pub typed : IsTypedRow s row
   pub equation : Equation
   pub name : FlatName

@@ -39,6 +39,7 @@ use Rattle.tree_step.specs.Cells.{cell_in}
 use Rattle.tree_step.specs.Starts.{Sight, use_of, uses_of, IsAmong, HasCell, IsClockTold, IsSideSeen, AreSidesSeen, IsEntry, AreSitesApart, IsStart, CanStart}
 use Rattle.tree_step.specs.Takes as steps
 use Rattle.tree_step.proofs.Plain.{left_asks}
+use Rattle.side_theory.specs.Typed.{valued_before}
 use Rattle.partition_step.specs.private.Writing.{IsWritten}
 use Rattle.partition_step.proofs.Lists.{some_at, written_at, written_back}
 use Rattle.partition_step.proofs.Placing.{own_there, there}
@@ -191,7 +192,7 @@ module _ (w : PureUses) (now : Values) (shown : List Cell) (shows : IsWritten (s
       starts : IsStart s uses [] behind S m (value_in now) sight w.entries shown
       starts = record {
         ordered = ordered;
-        meets = meets;
+        meets = valued_before s S m meets;
         typed = inputs_typed s uses stages.pure stages.pieces stages.waiting before.staged.are S n before.at before.here (value_in now) before.are;
         sound = sound;
         clear = λ y reached. clear_at_first s uses stages.pure stages.pieces stages.waiting before.staged.are S n before.at before.here (value_in now) before.are y (subst (IsReachedBy y) before.pure.uses_are reached);
