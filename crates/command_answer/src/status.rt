@@ -12,7 +12,7 @@ pub enum Status {
     Faulted,
     /// The words are no command; one usage line is on err.
     Usage,
-    /// The model could not be read.
+    /// The model or the table could not be read; the line on err names the file.
     ReadFault,
     /// A line could not be written.
     WriteFault,
