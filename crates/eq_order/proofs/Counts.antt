@@ -3,7 +3,7 @@ use Rattle.std.proofs.Common.{◌≡◌, refl, subst, sym, ap, ◌∙◌, ℕ, �
 use Rattle.std.proofs.lemmas.Bool.{cases_eq, cases_lt, eq-eqb, ne_eqb}
 use Rattle.std.proofs.lemmas.List.{get_or-set_same, get_or-set_other, get_or_past}
 use Rattle.std.proofs.lemmas.List.Sums.{sum_by_more, sum_by-set, sum_by-take-le}
-use Rattle.eq_order.specs.private.Reaching.{count_of}
+use Rattle.eq_orient.specs.Gathered.{count_of}
 
 -- one more element of a list counts where it is the one
 pub count_more : (xs : List ℕ) (k i : ℕ) → k < length xs → count_of i (take (k + 1) xs) ≡ count_of i (take k xs) + cond (get_or xs k 0 == i) 1 0

@@ -1,6 +1,5 @@
 pub mod Composing
 pub mod Counts
-pub mod Gathering
 pub mod Lawful
 pub mod Listed
 pub mod Marks

@@ -16,7 +16,8 @@ use Rattle.flat_model.specs.declared.model.FlatModel.{FlatModel}
 use Rattle.flat_model.specs.Occurrences.{bare_count, held_count, converted_count}
 use Rattle.flat_model.specs.Setting.{Setting, class_of_name, class_of_equation, flattened}
 use Rattle.flat_model.specs.Uses.{ClassesMeet, EquationReads}
-use Rattle.eq_order.specs.private.Reaching.{count_of, is_waiting, waiting, list_at}
+use Rattle.eq_orient.specs.Gathered.{count_of}
+use Rattle.eq_order.specs.private.Reaching.{is_waiting, waiting, list_at}
 use Rattle.eq_order.specs.private.Tables.{ReadsBy, IsRow, AreReads, is_known}
 use Rattle.eq_order.proofs.Ties.{no_member, in_waiting, from_waiting, own_of, unreached_by, start_flags}
 use Rattle.eq_order.proofs.Turns.{count_cons}

@@ -11,7 +11,8 @@ use Rattle.std.specs.BTreeSet.{BTreeSet, contains, Updates, IsLowerBound, btree_
 use Rattle.flat_model.specs.declared.equation.Equation.{Equation}
 use Rattle.eq_order.specs.declared.uses.Use.{Use}
 use Rattle.eq_order.specs.Order.{HasSpine}
-use Rattle.eq_order.specs.private.Reaching.{count_of, list_at, is_waiting, waiting, CanTake, IsNext, AreTaken, flags_after, AreLeft, AreMirrored}
+use Rattle.eq_orient.specs.Gathered.{count_of}
+use Rattle.eq_order.specs.private.Reaching.{list_at, is_waiting, waiting, CanTake, IsNext, AreTaken, flags_after, AreLeft, AreMirrored}
 use Rattle.eq_order.proofs.Sets.{stays_in, least_in}
 use Rattle.eq_order.proofs.Turns.{counts_one, counts_after, waits, waits_same, reads_it}
 

@@ -13,7 +13,8 @@ use Rattle.flat_model.specs.Uses as model
 use Rattle.flat_model.specs.Uses.{EquationReads, Reads, IsSolvableFor, IsUnreached, CanReach, IsNextUse, AreUsesAfter, reached_names, used_equations}
 use Rattle.eq_order.specs.declared.uses.Use.{Use}
 use Rattle.eq_order.specs.Order.{IsOwn, use_of, HaveSpines}
-use Rattle.eq_order.specs.private.Reaching.{count_of, is_waiting, waiting, list_at, CanTake, AreTaken, flags_after}
+use Rattle.eq_orient.specs.Gathered.{count_of}
+use Rattle.eq_order.specs.private.Reaching.{is_waiting, waiting, list_at, CanTake, AreTaken, flags_after}
 use Rattle.eq_order.specs.private.Tables.{AreReads, AreFlags, AreDone, HaveEnded, is_known, is_clock_kind}
 use Rattle.eq_order.proofs.Turns.{waits, reached_now, others_stay, has_flag, count_cons}
 

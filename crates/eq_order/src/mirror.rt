@@ -1,6 +1,7 @@
 //! What equations read, turned into what reads each name.
 ghost use Rattle.std.specs.Prelude.{◌≡◌, ℕ, ◌<◌, ◌+◌, ◌^◌, ◌==◌, ◌&&◌, ◌++◌, [], ◌∷◌, All, length, IfOk, OnOk, vec_len, cond};
-ghost use Rattle.eq_order.specs.private.Reaching.{count_of, list_at, AreMirrored};
+ghost use Rattle.eq_orient.specs.Gathered.{count_of};
+ghost use Rattle.eq_order.specs.private.Reaching.{list_at, AreMirrored};
 
 use std::alloc::{AllocError, Global};
 use sync_values::List;

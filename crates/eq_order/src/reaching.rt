@@ -5,7 +5,8 @@ ghost use Rattle.std.specs.BTreeSet.{contains, btree_set_len};
 ghost use Rattle.flat_model.specs.Uses.{IsSolvableFor};
 ghost use Rattle.eq_orient.specs.Spine.{IsSpineOf};
 ghost use Rattle.eq_order.specs.Order.{HasSpine};
-ghost use Rattle.eq_order.specs.private.Reaching.{count_of, is_waiting, waiting, list_at, CanTake, AreTaken, flags_after, AreMirrored, AreLeft};
+ghost use Rattle.eq_orient.specs.Gathered.{count_of};
+ghost use Rattle.eq_order.specs.private.Reaching.{is_waiting, waiting, list_at, CanTake, AreTaken, flags_after, AreMirrored, AreLeft};
 
 use crate::uses::Use;
 use eq_orient::kinds::Spine;

@@ -3,6 +3,7 @@ pub mod Chains
 pub mod Checking
 pub mod Descent
 pub mod Down
+pub mod Parted
 pub mod OneAnswer
 pub mod Passing
 pub mod Reached

@@ -1,3 +1,4 @@
+pub mod Gathered
 pub mod Solving
 pub mod Spine
 pub mod private

@@ -9,7 +9,7 @@ use Rattle.eq_order.proofs.Reading.{is_there}
 use Rattle.tree_step.specs.declared.changed.Reads.{Reads}
 use Rattle.tree_step.specs.declared.taking.Entry.{Entry}
 use Rattle.tree_step.specs.Changed.{TellSide, TellReads, AreReadsOf}
-use Rattle.steps_ready.specs.private.Reading.{count_of}
+use Rattle.eq_orient.specs.Gathered.{count_of}
 
 -- a list with every name of a side tells it
 pub tell_side : (side : Expr) (reads : Reads) → ((x : ℕ) → bare_count x side ≤ count_of x reads.bare) → ((x : ℕ) → held_count x side + converted_count x side ≤ count_of x reads.held) → TellSide side reads

@@ -1,4 +1,3 @@
 pub mod Division
 pub mod Parting
-pub mod Reading
 pub mod Starting

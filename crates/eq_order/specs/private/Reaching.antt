@@ -1,13 +1,10 @@
 -- Which names equations wait for, and what can be taken next, over lists of what each equation reads.
-use Rattle.std.specs.Prelude.{◌≡◌, ℕ, ◌==◌, Bool, true, not, ◌<◌, List, [], ◌∷◌, Some, slice_get, slice_index_or, slice_set, filter, count_by}
+use Rattle.std.specs.Prelude.{◌≡◌, ℕ, Bool, true, not, ◌<◌, List, [], ◌∷◌, Some, slice_get, slice_index_or, slice_set, filter, count_by}
 use Rattle.flat_model.specs.declared.equation.Equation.{Equation}
 use Rattle.flat_model.specs.Uses.{IsSolvableFor}
+use Rattle.eq_orient.specs.Gathered.{count_of}
 use Rattle.eq_order.specs.declared.uses.Use.{Use}
 use Rattle.eq_order.specs.Order.{HasSpine}
-
--- how often a number stands in a list
-abbrev pub count_of : ℕ → List ℕ → ℕ
-count_of x xs = count_by (λ y. y == x) xs
 
 -- the list at a place; none past the end
 abbrev pub list_at : List (List ℕ) → ℕ → List ℕ

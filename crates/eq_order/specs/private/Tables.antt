@@ -14,7 +14,8 @@ use Rattle.flat_model.specs.Setting.{Setting, class_of_name}
 use Rattle.flat_model.specs.Uses.{Reads, ClassesMeet, reached_names, used_equations, IsUnreached, CanReach}
 use Rattle.flat_model.specs.Uses as uses_of_model
 use Rattle.eq_order.specs.Order.{IsOwn, IsUnused, Breaks}
-use Rattle.eq_order.specs.private.Reaching.{count_of, list_at, is_waiting}
+use Rattle.eq_orient.specs.Gathered.{count_of}
+use Rattle.eq_order.specs.private.Reaching.{list_at, is_waiting}
 use Rattle.eq_order.specs.declared.ends.OrderCode.TheVariants.{Q2}
 use Rattle.eq_order.specs.declared.ends.OrderEnd.{OrderEnd}
 use Rattle.eq_order.specs.declared.ends.OrderEnd.TheVariants.{Fault, NoMemory}

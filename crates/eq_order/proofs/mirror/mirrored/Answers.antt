@@ -1,7 +1,8 @@
 use Rattle.std.proofs.Common.{rules, arith, ◌≡◌, ℕ, ◌+◌, List, [], cond, ◌==◌, inl, inr, length, sym, ap, subst, ◌∙◌}
 use Rattle.std.proofs.lemmas.Bool.{cases_eq, cases_lt}
 use Rattle.std.proofs.lemmas.List.{get_or_read, get_or_past, with_items_is}
-use Rattle.eq_order.specs.private.Reaching.{count_of, list_at}
+use Rattle.eq_orient.specs.Gathered.{count_of}
+use Rattle.eq_order.specs.private.Reaching.{list_at}
 use Rattle.eq_order.proofs.Mirrors.{noted_own, noted_other, none_counted}
 use Rattle.eq_order.proofs.mirror.mirrored.Goals as goal
 

@@ -1,5 +1,6 @@
 use Rattle.std.proofs.Common.{◌≡◌, ℕ, ◌<◌, ◌≤◌, vec_len}
-use Rattle.eq_order.specs.private.Reaching.{count_of, list_at}
+use Rattle.eq_orient.specs.Gathered.{count_of}
+use Rattle.eq_order.specs.private.Reaching.{list_at}
 use Rattle.eq_order.proofs.mirror.mirrored.Given as goal
 
 abbrev pub invariant-loop-i : goal.invariant-loop-i

@@ -3,7 +3,8 @@ use Rattle.std.proofs.lemmas.Bool.{cases_eq}
 use Rattle.std.proofs.lemmas.List.{get_or_read, with_items_is, length-map, length-set}
 use Rattle.std.specs.Ordering.{nat_cmp}
 use Rattle.std.specs.BTreeSet.{contains, btree_set_len, IsLowerBound}
-use Rattle.eq_order.specs.private.Reaching.{list_at, count_of, CanTake, AreTaken, flags_after, AreLeft, IsNext}
+use Rattle.eq_orient.specs.Gathered.{count_of}
+use Rattle.eq_order.specs.private.Reaching.{list_at, CanTake, AreTaken, flags_after, AreLeft, IsNext}
 use Rattle.eq_order.proofs.Turns.{waits, has_flag}
 use Rattle.eq_order.proofs.Sets.{was_there}
 use Rattle.eq_order.proofs.Steps.{GoDown, left_after, ready_after, ready_less, is_next, flags_more, start_left, start_ready, enough_names, none_left, taken_more}

@@ -5,9 +5,10 @@ use Rattle.flat_model.specs.declared.equation.Equation.TheVariants.{Valued}
 use Rattle.flat_model.specs.Occurrences.{bare_count, held_count, converted_count}
 use Rattle.flat_model.specs.Setting.{class_of_name}
 use Rattle.flat_model.specs.Uses.{ClassesMeet}
-use Rattle.eq_order.specs.private.Reaching.{count_of, is_waiting, waiting}
+use Rattle.eq_orient.specs.Gathered.{count_of}
+use Rattle.eq_order.specs.private.Reaching.{is_waiting, waiting}
 use Rattle.eq_order.specs.private.Tables.{IsRow}
-use Rattle.eq_order.proofs.Gathering.{if_ok}
+use Rattle.eq_orient.proofs.Parted.{if_ok}
 use Rattle.eq_order.proofs.Reading.{row_reads}
 use Rattle.eq_order.proofs.reads.row.Goals as goal
 

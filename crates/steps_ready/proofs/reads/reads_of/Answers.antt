@@ -3,7 +3,7 @@ use Rattle.flat_model.specs.declared.equation.Equation.TheVariants.{Valued}
 use Rattle.flat_model.specs.Occurrences.{bare_count, held_count, converted_count}
 use Rattle.tree_step.specs.declared.changed.Reads.{Reads}
 use Rattle.tree_step.specs.Changed.{TellReads}
-use Rattle.steps_ready.specs.private.Reading.{count_of}
+use Rattle.eq_orient.specs.Gathered.{count_of}
 use Rattle.steps_ready.proofs.Told.{tell_side}
 use Rattle.steps_ready.proofs.reads.reads_of.Goals as goal
 

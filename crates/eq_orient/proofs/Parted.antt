@@ -1,4 +1,4 @@
--- The names that are gathered from the parts of an expression.
+-- How often a name stands in an expression, from its parts.
 use Rattle.std.proofs.Common.{◌≡◌, ap, sym, ◌∙◌, ℕ, ◌+◌, List, map, sum, Result, Ok, Err, arith}
 use Rattle.std.specs.Prelude.{OnOk, IfOk}
 use Rattle.sync_values.specs.declared.value.ChainOp.{ChainOp}

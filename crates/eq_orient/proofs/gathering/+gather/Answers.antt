@@ -1,8 +1,8 @@
 use Rattle.std.proofs.Common.{ap, ◌∙◌, ◌+◌}
 use Rattle.eq_orient.specs.Spine.{count_in}
-use Rattle.steps_ready.specs.private.Reading.{count_of}
-use Rattle.eq_order.proofs.Gathering.{on_ok, chain_count, call_count, choice_count}
-use Rattle.steps_ready.proofs.reads.+gather.Goals as goal
+use Rattle.eq_orient.specs.Gathered.{count_of}
+use Rattle.eq_orient.proofs.Parted.{on_ok, chain_count, call_count, choice_count}
+use Rattle.eq_orient.proofs.gathering.+gather.Goals as goal
 
 pub gather-returns-in-Chain : goal.gather-returns-in-Chain
 gather-returns-in-Chain t c = on_ok c.gather_all.result _ _ (λ all x. chain_count c.args.manner x c.args.expr.now c.in-Chain.parts c.as_slice.result.now c.in-Chain.field-1 _ _ c.in-Chain.is c.as_slice.ensures (all x)) c.gather_all.ensures
