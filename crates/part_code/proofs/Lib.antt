@@ -1,4 +1,6 @@
 pub mod Growing
+pub mod Refusing
 pub mod Runs
-pub mod Whole
+pub mod Sizes
 pub mod Solved
+pub mod Whole
