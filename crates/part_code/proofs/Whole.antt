@@ -125,8 +125,11 @@ module _ (equations : List Equation) (names : List FlatName) (entries : List Ent
 
   -- more cells than there are numbers
   pub too_many_keys : 2 ^ 32 ≤ length (with_keys [] (keys_of_lines lines)) → HasNoCode equations names entries
-  too_many_keys many = large (map (λ line. line.side.now) lines) (sides_are equations entries lines long line_is)
-      (let some = with_keys_most [] (keys_of_lines lines) in let all = all_needed equations entries lines long line_is in omega (arith, many, some, all))
+  too_many_keys many = large (
+    map (λ line. line.side.now) lines,
+    sides_are equations entries lines long line_is,
+    let some = with_keys_most [] (keys_of_lines lines) in let all = all_needed equations entries lines long line_is in omega (arith, many, some, all),
+  )
 
   module _ (coded : List Line) (given : AreCodeLines keys lines (length lines) coded) where
     side_is : (j : ℕ) (line : PartLine) (one : Line) → slice_get lines j ≡ Some line → slice_get coded j ≡ Some one → one.side.now ≡ line.side.now
@@ -134,13 +137,16 @@ module _ (equations : List Equation) (names : List FlatName) (entries : List Ent
 
     -- the code of a run of lines is too long
     too_long : (at : Cells) (m n : ℕ) → 2 ^ 32 ≤ length keys + length (plain.lines_code at (length keys) (lines_of (take m (drop n coded)))) → HasNoCode equations names entries
-    too_long at m n many = large (map (λ line. line.side.now) lines) (sides_are equations entries lines long line_is)
-        (let run = run_within at (length keys) coded m n in
-        let same = same_sizes lines coded given.size side_is in
-        let some = with_keys_most [] (keys_of_lines lines) in
-        let own = ap length keys_are in
-        let all = all_needed equations entries lines long line_is in
-        omega (arith, many, run, same, some, own, all))
+    too_long at m n many = large (
+      map (λ line. line.side.now) lines,
+      sides_are equations entries lines long line_is,
+      let run = run_within at (length keys) coded m n in
+          let same = same_sizes lines coded given.size side_is in
+          let some = with_keys_most [] (keys_of_lines lines) in
+          let own = ap length keys_are in
+          let all = all_needed equations entries lines long line_is in
+          omega (arith, many, run, same, some, own, all),
+    )
 
     -- the side in a place of a run is not known
     not_known_at : (start end : ℕ) (first : Entry) → slice_get entries start ≡ Some first → IsEnd entries start end → (k : ℕ) (one : Line) → slice_get coded k ≡ Some one → start ≤ k → k < end

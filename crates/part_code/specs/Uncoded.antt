@@ -1,14 +1,17 @@
 -- When the uses of a base partition have no code. This project's own.
-use Rattle.std.specs.Prelude.{◌≡◌, ℕ, ◌+◌, ◌*◌, ◌≤◌, ◌^◌, true, List, [], ◌∷◌, length, Some, slice_get}
+use Rattle.std.specs.Prelude.{◌≡◌, ℕ, ◌+◌, ◌*◌, ◌≤◌, ◌^◌, Bool, true, List, [], ◌∷◌, length, Option, Some, slice_get}
 use Rattle.flat_model.specs.declared.clock.ClockExpr.TheFolds.{fold-Expr}
 use Rattle.flat_model.specs.declared.clock.ClockExpr.TheOpen.{Expr-F}
 use Rattle.flat_model.specs.declared.equation.Equation.{Equation}
+use Rattle.flat_model.specs.declared.equation.Equation.TheVariants.{Valued}
 use Rattle.flat_model.specs.declared.expression.Expr.{Expr}
 use Rattle.flat_model.specs.declared.model.FlatName.{FlatName}
 use Rattle.flat_model.specs.declared.model.NameKind.{NameKind}
 use Rattle.flat_model.specs.Samples.{samples_are_plain}
 use Rattle.flat_model.specs.Typing.{types_in, type_of}
 use Rattle.cell_keys.specs.declared.sight.Sight.TheVariants.{Now}
+use Rattle.eq_orient.specs.Solving.{AreWellMade}
+use Rattle.eq_orient.specs.Spine.{IsSpineOf}
 use Rattle.part_layout.specs.Reads.{keys_read}
 use Rattle.tree_step.specs.declared.taking.Entry.{Entry}
 use Rattle.tree_step.specs.Starts.{IsAmong}
@@ -54,8 +57,29 @@ abbrev pub most_needed : List Entry → List Expr → ℕ
 most_needed (entry ∷ entries) (side ∷ sides) = 1 + length (keys_read side entry.clock Now) + most_instructions side + most_needed entries sides
 most_needed _ _ = 0
 
--- why entries have no code: the equation of one has no side, the side of one has no type, or they need so many cells and instructions that these have no numbers of 32 bits
+-- entries need so many cells and instructions that these have no numbers of 32 bits
+abbrev pub AreTooLarge : List Equation → List Entry → Type 0
+AreTooLarge equations entries = (sides : List Expr) × AreSidesOf equations entries sides × (2 ^ 32 ≤ most_needed entries sides)
+
+-- why entries have no code: the equation of one has no side, the side of one has no type, or they are too large
 pub data HasNoCode (equations : List Equation) (names : List FlatName) (entries : List Entry) : Type 0 where
   unsolved : (entry : Entry) → IsAmong entry entries → HasNoSide equations entry → HasNoCode equations names entries
   untyped : (entry : Entry) → IsAmong entry entries → (side : Expr) → IsSideOf equations entry side → (IsTypedSide names side → ⊥) → HasNoCode equations names entries
-  large : (sides : List Expr) → AreSidesOf equations entries sides → 2 ^ 32 ≤ most_needed entries sides → HasNoCode equations names entries
+  large : AreTooLarge equations entries → HasNoCode equations names entries
+
+-- the equation of an entry is typed and well made, and can be solved for the entry's name
+pub record IsSolvable (equations : List Equation) (names : List FlatName) (entry : Entry) : Type 0 where
+  pub left : Expr
+  pub right : Expr
+  pub clause : Option ℕ
+  pub found : slice_get equations entry.equation ≡ Some (Valued left right clause)
+  pub made : AreWellMade (Valued left right clause)
+  pub on_left : Bool
+  pub spine : IsSpineOf entry.name (Valued left right clause) on_left
+  pub type : NameKind
+  pub left_typed : type_of (types_in names) left ≡ Some type
+  pub right_typed : type_of (types_in names) right ≡ Some type
+
+-- entries whose equations are all so have no code only where they are too large
+abbrev pub SizeLaw : Type 0
+SizeLaw = (equations : List Equation) (names : List FlatName) (entries : List Entry) → ((entry : Entry) → IsAmong entry entries → IsSolvable equations names entry) → HasNoCode equations names entries → AreTooLarge equations entries
