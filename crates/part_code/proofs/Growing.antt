@@ -1,8 +1,7 @@
 -- Lists that grow at their end.
-use Rattle.std.proofs.Common.{◌≡◌, refl, ap, ◌∙◌, sym, subst, ℕ, zero, suc, ◌+◌, ◌<◌, List, [], ◌∷◌, ◌++◌, length, get_or, Option, Some, IfSome, slice_get, ◌⊎◌, inl, inr, arith}
+use Rattle.std.proofs.Common.{◌≡◌, refl, ap, ◌∙◌, sym, subst, ℕ, zero, suc, ◌+◌, ◌<◌, List, [], ◌∷◌, ◌++◌, length, get_or, Some, slice_get, ◌⊎◌, inl, inr, arith}
 use Rattle.std.proofs.lemmas.Option.{none-some, same_Some, slice_get-get_or}
 use Rattle.flat_model.specs.declared.equation.Equation.{Equation}
-use Rattle.flat_model.specs.declared.expression.Expr.{Expr}
 use Rattle.flat_model.specs.declared.model.FlatName.{FlatName}
 use Rattle.flat_model.specs.Typing.{types_in}
 use Rattle.cell_keys.specs.declared.key.CellKey.{CellKey}
@@ -13,8 +12,9 @@ use Rattle.part_layout.specs.declared.lines.PartLine.{PartLine}
 use Rattle.part_layout.specs.Keyed.{is_boolean}
 use Rattle.tree_step.specs.declared.taking.Entry.{Entry}
 use Rattle.part_code.specs.declared.coded.Landing.{Landing}
+use Rattle.part_code.specs.declared.sides.NameSide.{NameSide}
 use Rattle.part_code.specs.Coded.{IsSideOf}
-use Rattle.part_code.specs.private.Lines.{AreMadeTo, IsLineOf, ArePartLines, AreLandedTo, AreCodeLines}
+use Rattle.part_code.specs.private.Lines.{expr_of, AreSidesTo, AreJoinedTo, ArePartLines, AreLandedTo, AreCodeLines}
 
 append_cases : {A : Type 0} (xs : List A) (y : A) (j : ℕ) (x : A) → slice_get (xs ++ y ∷ []) j ≡ Some x → (slice_get xs j ≡ Some x) ⊎ ((j ≡ length xs) × (x ≡ y))
 append_cases [] y zero x found = inr (refl, sym (same_Some y x found))
@@ -40,14 +40,6 @@ fellow_next rel xs i ys x y are found is = record {
   ];
 }
 
-pub part_lines_next : (equations : List Equation) (entries : List Entry) (i : ℕ) (lines new : List PartLine) (d : Entry) (line : PartLine) → ArePartLines equations entries i lines → i < length entries → IsLineOf equations (get_or entries i d) line → new ≡ lines ++ line ∷ [] → ArePartLines equations entries (i + 1) new
-part_lines_next equations entries i lines new d line are lt is new_is =
-    let next = fellow_next (IsLineOf equations) entries i lines (get_or entries i d) line (record { size = are.size; each = are.each }) (slice_get-get_or entries i d lt) is in
-    subst (ArePartLines equations entries (i + 1)) (sym new_is) (record { size = next.size; each = next.each })
-
-pub part_lines_first : (equations : List Equation) (entries : List Entry) → ArePartLines equations entries 0 []
-part_lines_first equations entries = record { size = refl; each = λ j line found. absurd (none-some line found) }
-
 pub landings_next : (names : List FlatName) (keys : List CellKey) (lines : List PartLine) (i : ℕ) (landings new : List Landing) (d line : PartLine) (landing : Landing) → AreLandedTo names keys lines i landings → i < length lines → line ≡ get_or lines i d
     → cell_of keys (Value line.name) ≡ Some landing.cell → landing.boolean ≡ is_boolean (types_in names line.name) → new ≡ landings ++ landing ∷ [] → AreLandedTo names keys lines (i + 1) new
 landings_next names keys lines i landings new d line landing are lt is cell boolean new_is =
@@ -68,17 +60,38 @@ code_lines_next keys lines i coded new d line one are lt is cell name side new_i
 pub code_lines_first : (keys : List CellKey) (lines : List PartLine) → AreCodeLines keys lines 0 []
 code_lines_first keys lines = record { size = refl; each = λ j one found. absurd (none-some one found) }
 
-pub made_next : (equations : List Equation) (entries : List Entry) (i : ℕ) (made new : List (Option Expr)) (d : Entry) (side : Option Expr) → AreMadeTo equations entries i made → i < length entries → IfSome side (IsSideOf equations (get_or entries i d)) → new ≡ made ++ side ∷ []
-    → AreMadeTo equations entries (i + 1) new
-made_next equations entries i made new d side are lt is new_is =
-    let next = fellow_next (λ (entry : Entry) (o : Option Expr). IfSome o (IsSideOf equations entry)) entries i made (get_or entries i d) side (record { size = are.size; each = are.each }) (slice_get-get_or entries i d lt) is in
-    subst (AreMadeTo equations entries (i + 1)) (sym new_is) (record { size = next.size; each = next.each })
+pub sides_next : (equations : List Equation) (entries : List Entry) (i : ℕ) (sides new : List NameSide) (d : Entry) (side : NameSide) → AreSidesTo equations entries i sides → i < length entries → IsSideOf equations (get_or entries i d) (expr_of side) → new ≡ sides ++ side ∷ []
+    → AreSidesTo equations entries (i + 1) new
+sides_next equations entries i sides new d side are lt is new_is =
+    let next = fellow_next (λ (entry : Entry) (s : NameSide). IsSideOf equations entry (expr_of s)) entries i sides (get_or entries i d) side (record { size = are.size; each = are.each }) (slice_get-get_or entries i d lt) is in
+    subst (AreSidesTo equations entries (i + 1)) (sym new_is) (record { size = next.size; each = next.each })
 
-pub made_first : (equations : List Equation) (entries : List Entry) → AreMadeTo equations entries 0 []
-made_first equations entries = record { size = refl; each = λ j side found. absurd (none-some side found) }
+pub sides_first : (equations : List Equation) (entries : List Entry) → AreSidesTo equations entries 0 []
+sides_first equations entries = record { size = refl; each = λ j side found. absurd (none-some side found) }
 
--- the side that was made for the entry in a place
-pub made_at : (equations : List Equation) (entries : List Entry) (made : List (Option Expr)) (i : ℕ) (d : Entry) (e : Option Expr) → AreMadeTo equations entries (length entries) made → i < length entries → IfSome (get_or made i e) (IsSideOf equations (get_or entries i d))
-made_at equations entries made i d e are lt =
-    let (entry, found, is) = are.each i (get_or made i e) (slice_get-get_or made i e (let size = are.size in omega (arith, size, lt))) in
-    subst (λ z. IfSome (get_or made i e) (IsSideOf equations z)) (same_Some entry (get_or entries i d) (sym found ∙ slice_get-get_or entries i d lt)) is
+pub joined_next : (entries : List Entry) (sides : List NameSide) (i : ℕ) (lines new : List PartLine) (d : Entry) (e : NameSide) (line : PartLine) → AreJoinedTo entries sides i lines → i < length entries → i < length sides
+    → line.name ≡ (get_or entries i d).name → line.class ≡ (get_or entries i d).clock → line.side.now ≡ expr_of (get_or sides i e) → new ≡ lines ++ line ∷ [] → AreJoinedTo entries sides (i + 1) new
+joined_next entries sides i lines new d e line are lt side_lt name class side new_is =
+    let by_entry = fellow_next (λ (entry : Entry) (l : PartLine). (l.name ≡ entry.name) × (l.class ≡ entry.clock)) entries i lines (get_or entries i d) line
+    (record { size = are.size; each = λ j l at. let (entry, found, one, other) = are.entry j l at in (entry, found, (one, other)) }) (slice_get-get_or entries i d lt) (name, class) in
+    let by_side = fellow_next (λ (s : NameSide) (l : PartLine). l.side.now ≡ expr_of s) sides i lines (get_or sides i e) line (record { size = are.size; each = are.side }) (slice_get-get_or sides i e side_lt) side in
+    subst (AreJoinedTo entries sides (i + 1)) (sym new_is) (record {
+      size = by_entry.size;
+      entry = λ j l at. let (entry, found, both) = by_entry.each j l at in (entry, found, both.0, both.1);
+      side = by_side.each;
+    })
+
+pub joined_first : (entries : List Entry) (sides : List NameSide) → AreJoinedTo entries sides 0 []
+joined_first entries sides = record { size = refl; entry = λ j line found. absurd (none-some line found); side = λ j line found. absurd (none-some line found) }
+
+-- lines of sides that are those of entries are the entries' lines
+pub joined_lines : (equations : List Equation) (entries : List Entry) (sides : List NameSide) (n : ℕ) (lines : List PartLine) → AreSidesTo equations entries n sides → AreJoinedTo entries sides n lines → ArePartLines equations entries n lines
+joined_lines equations entries sides n lines are joined = record {
+  size = joined.size;
+  each = λ j line found.
+      let (entry, entry_found, name, class) = joined.entry j line found in
+      let (side, side_found, is) = joined.side j line found in
+      let (other, other_found, of) = are.each j side side_found in
+      let here : IsSideOf equations entry (expr_of side) = subst (λ e. IsSideOf equations e (expr_of side)) (same_Some other entry (sym other_found ∙ entry_found)) of in
+      (entry, entry_found, record { side = subst (IsSideOf equations entry) (sym is) here; name = name; class = class });
+}

@@ -1,4 +1,7 @@
 pub mod Growing
+pub mod Refusing
 pub mod Runs
-pub mod Whole
+pub mod Sized
+pub mod Sizes
 pub mod Solved
+pub mod Whole

@@ -1,11 +1,10 @@
 -- Stretches one behind the other.
-use Rattle.std.proofs.Common.{◌≡◌, refl, ap, ◌∙◌, sym, subst, ℕ, zero, suc, ◌+◌, ◌-◌, ◌<◌, ◌≤◌, List, [], ◌∷◌, ◌++◌, length, take, drop, map, get_or, Option, Some, None, slice_get, inl, inr, arith}
-use Rattle.std.specs.Prelude.{option_map, All}
+use Rattle.std.proofs.Common.{◌≡◌, refl, ap, ◌∙◌, sym, subst, ℕ, zero, suc, ◌+◌, ◌-◌, ◌<◌, ◌≤◌, List, [], ◌∷◌, ◌++◌, length, take, drop, map, get_or, Some, None, slice_get, inl, inr, arith}
+use Rattle.std.specs.Prelude.{All}
 use Rattle.std.proofs.lemmas.Bool.{cases_eq}
 use Rattle.std.proofs.lemmas.List.{take-append-drop, drop_all}
-use Rattle.std.proofs.lemmas.Option.{none-some, same_Some, slice_get-map, slice_get-get_or, slice_get_within}
+use Rattle.std.proofs.lemmas.Option.{none-some, same_Some, slice_get-get_or}
 use Rattle.flat_model.specs.declared.equation.Equation.{Equation}
-use Rattle.flat_model.specs.declared.expression.Expr.{Expr}
 use Rattle.flat_model.specs.declared.model.FlatName.{FlatName}
 use Rattle.cell_keys.specs.declared.key.CellKey.{CellKey}
 use Rattle.cell_keys.specs.declared.key.CellKey.TheVariants.{Value}
@@ -21,7 +20,7 @@ use Rattle.part_layout.specs.Reads.{keys_read}
 use Rattle.part_stretches.specs.declared.running.ClassStretch.{ClassStretch}
 use Rattle.part_stretches.specs.Running.{IsRunWithin}
 use Rattle.tree_step.specs.declared.taking.Entry.{Entry}
-use Rattle.part_code.specs.Coded.{IsSideOf, AreLinesFor, IsStretchOf, AreStretchesOf}
+use Rattle.part_code.specs.Coded.{IsSideOf, AreLinesFor, AreStretchesOf}
 use Rattle.part_code.specs.private.Stretching.{IsEnd, IsCodedRun, AreCodedFrom}
 
 -- ---- the end of a run
@@ -57,12 +56,12 @@ coded_push names keys entries lines start mid end (x ∷ xs) one (next, is, rest
 
 -- ---- lists in pieces
 
-at_drop : {A : Type 0} (xs : List A) (i j : ℕ) → slice_get (drop i xs) j ≡ slice_get xs (i + j)
+pub at_drop : {A : Type 0} (xs : List A) (i j : ℕ) → slice_get (drop i xs) j ≡ slice_get xs (i + j)
 at_drop xs zero j = ap (slice_get xs) (let e : j ≡ 0 + j = omega arith in e)
 at_drop [] (suc i) j = refl
 at_drop (x ∷ xs) (suc i) j = at_drop xs i j ∙ sym (ap (slice_get (x ∷ xs)) (let e : suc i + j ≡ suc (i + j) = omega arith in e))
 
-at_take : {A : Type 0} (xs : List A) (n j : ℕ) (x : A) → slice_get (take n xs) j ≡ Some x → (j < n) × (slice_get xs j ≡ Some x)
+pub at_take : {A : Type 0} (xs : List A) (n j : ℕ) (x : A) → slice_get (take n xs) j ≡ Some x → (j < n) × (slice_get xs j ≡ Some x)
 at_take xs zero j x found = absurd (none-some x (sym (none xs j) ∙ found))
   where
     none : {A : Type 0} (xs : List A) (j : ℕ) → slice_get (take 0 xs) j ≡ None
@@ -104,7 +103,7 @@ length_drop xs zero = omega arith
 length_drop [] (suc n) = omega arith
 length_drop (x ∷ xs) (suc n) = let rest = length_drop xs n in omega (arith, rest)
 
-map_back : {A B : Type 0} (f : A → B) (xs : List A) (j : ℕ) (y : B) → slice_get (map f xs) j ≡ Some y → (x : A) × (slice_get xs j ≡ Some x) × (f x ≡ y)
+pub map_back : {A B : Type 0} (f : A → B) (xs : List A) (j : ℕ) (y : B) → slice_get (map f xs) j ≡ Some y → (x : A) × (slice_get xs j ≡ Some x) × (f x ≡ y)
 map_back f [] j y found = absurd (none-some y found)
 map_back f (x ∷ xs) zero y found = (x, refl, same_Some (f x) y found)
 map_back f (x ∷ xs) (suc j) y found = map_back f xs j y found

@@ -1,20 +1,25 @@
 -- A side that solves the equation of an entry is one of the entry.
-use Rattle.std.proofs.Common.{◌≡◌, List, Option, Some, None, IfSome, MatchOption, Result, IfOk, slice_get}
+use Rattle.std.proofs.Common.{◌≡◌, ◌∙◌, sym, subst, List, Some, None, IfErr, Result, IfOk, slice_get}
+use Rattle.std.proofs.lemmas.Option.{none-some, same_Some}
 use Rattle.std.proofs.lemmas.Result.{IfOk-weaker}
 use Rattle.flat_model.specs.declared.equation.Equation.{Equation}
-use Rattle.flat_model.specs.declared.expression.Expr.{Expr}
+use Rattle.step_code.specs.declared.compile.NoCode.{NoCode}
 use Rattle.tree_step.specs.declared.taking.Entry.{Entry}
 use Rattle.undone_side.specs.Undone.{IsSolvedSide, IsUnsolved}
+use Rattle.part_code.specs.declared.sides.NameSide.{NameSide}
 use Rattle.part_code.specs.Coded.{IsSideOf}
+use Rattle.part_code.specs.Uncoded.{HasNoSide}
+use Rattle.part_code.specs.private.Lines.{expr_of}
+use Rattle.part_code.specs.private.Refused.{IsDueTo}
+use Rattle.part_code.proofs.Refusing.{due_within}
 
-module _ (equations : List Equation) (entry : Entry) (equation : Equation) (found : slice_get equations entry.equation ≡ Some equation) where
-  pub side_found : {A : Type 0} (of : A → Expr) (o : Option A) → IfSome o (λ side. IsSolvedSide entry.name equation (of side)) → IfSome o (λ side. IsSideOf equations entry (of side))
-  side_found of None solved = solved
-  side_found of (Some side) solved = record { equation = equation; found = found; solved = solved }
+module _ (equations : List Equation) (entry : Entry) where
+  pub no_equation : slice_get equations entry.equation ≡ None → HasNoSide equations entry
+  no_equation none equation found = absurd (none-some equation (sym none ∙ found))
 
-  side_or_none : (o : Option Expr) → MatchOption o (IsUnsolved entry.name equation) (IsSolvedSide entry.name equation) → IfSome o (IsSideOf equations entry)
-  side_or_none None none = tt
-  side_or_none (Some side) solved = record { equation = equation; found = found; solved = solved }
+  module _ (equation : Equation) (found : slice_get equations entry.equation ≡ Some equation) where
+    pub side_found : (r : Result NameSide NoCode) → IfOk r (λ side. IsSolvedSide entry.name equation (expr_of side)) → IfOk r (λ side. IsSideOf equations entry (expr_of side))
+    side_found r = IfOk-weaker r (λ side. IsSolvedSide entry.name equation (expr_of side)) (λ side. IsSideOf equations entry (expr_of side)) (λ side solved. record { equation = equation; found = found; solved = solved })
 
-  pub side_made : {E : Type 0} (r : Result (Option Expr) E) → IfOk r (λ side. MatchOption side (IsUnsolved entry.name equation) (IsSolvedSide entry.name equation)) → IfOk r (λ side. IfSome side (IsSideOf equations entry))
-  side_made r = IfOk-weaker r (λ side. MatchOption side (IsUnsolved entry.name equation) (IsSolvedSide entry.name equation)) (λ side. IfSome side (IsSideOf equations entry)) side_or_none
+    pub side_refused : (r : Result NameSide NoCode) → IfErr r (IsDueTo (IsUnsolved entry.name equation)) → IfErr r (IsDueTo (HasNoSide equations entry))
+    side_refused = due_within (λ unsolved other other_found. subst (IsUnsolved entry.name) (same_Some equation other (sym found ∙ other_found)) unsolved)

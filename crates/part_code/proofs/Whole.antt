@@ -1,11 +1,11 @@
 -- What was prepared is the code of the entries.
-use Rattle.std.proofs.Common.{◌≡◌, refl, ap, ◌∙◌, sym, subst, ℕ, zero, suc, ◌<◌, Bool, true, false, List, [], ◌∷◌, length, Some, slice_get, ◌⊎◌, inl, inr, arith}
-use Rattle.std.specs.Prelude.{◌||◌}
+use Rattle.std.proofs.Common.{◌≡◌, refl, ap, ◌∙◌, sym, subst, ℕ, zero, suc, ◌+◌, ◌-◌, ◌<◌, ◌≤◌, ◌^◌, map, take, drop, Bool, true, false, List, [], ◌∷◌, length, get_or, Some, None, slice_get, ◌⊎◌, inl, inr, arith}
+use Rattle.std.specs.Prelude.{◌||◌, IsSome}
 use Rattle.std.specs.List.{list_any}
 use Rattle.std.specs.Option.{is_some}
 use Rattle.std.proofs.lemmas.Bool.{false≢true}
 use Rattle.std.proofs.lemmas.List.Folds.{list_any-append}
-use Rattle.std.proofs.lemmas.Option.{none-some, same_Some, slice_get_within}
+use Rattle.std.proofs.lemmas.Option.{none-some, same_Some, slice_get_within, slice_get-get_or}
 use Rattle.flat_model.specs.declared.equation.Equation.{Equation}
 use Rattle.flat_model.specs.declared.model.FlatName.{FlatName}
 use Rattle.flat_model.specs.Typing.{types_in}
@@ -15,35 +15,38 @@ use Rattle.cell_keys.specs.declared.sight.Sight.TheVariants.{Now}
 use Rattle.cell_keys.specs.Cells.{same_key, cell_of, with_keys, AreWhole}
 use Rattle.cell_keys.proofs.Distinct.{same_true, has_cell, from_either}
 use Rattle.step_lines.specs.declared.stretch.Line.{Line}
-use Rattle.step_lines.specs.Stretches.{line_of}
+use Rattle.step_code.specs.Code.{Cells, piece_of}
+use Rattle.step_code.specs.Lines as plain
+use Rattle.step_lines.specs.Stretches.{line_of, lines_of, are_known}
 use Rattle.part_layout.specs.declared.lines.PartLine.{PartLine}
-use Rattle.part_layout.specs.Keyed.{is_boolean}
+use Rattle.part_layout.specs.Keyed.{is_boolean, keyed_cells}
 use Rattle.part_layout.specs.LayoutLaws.{HasAll, IsLaidOutFor, AreLaidOutFor}
 use Rattle.part_layout.specs.Reads.{keys_read, keys_of_line, keys_of_lines}
 use Rattle.part_layout.proofs.Laid.{all_laid}
 use Rattle.part_stretches.specs.declared.running.ClassStretch.{ClassStretch}
 use Rattle.tree_step.specs.declared.taking.Entry.{Entry}
-use Rattle.tree_step.specs.Starts.{IsAmong}
 use Rattle.part_code.specs.declared.coded.Landing.{Landing}
 use Rattle.part_code.specs.Coded.{IsSideOf, AreStretchesOf, Has, IsAskedBy, IsLandingOf}
 use Rattle.part_code.specs.private.Lines.{IsLineOf, ArePartLines, AreLandedTo, AreCodeLines}
-use Rattle.part_code.specs.private.Stretching.{AreCodedTo}
-use Rattle.part_code.proofs.Runs.{IsLineFor, stretches_of}
+use Rattle.part_code.specs.Uncoded.{HasNoCode, untyped, large}
+use Rattle.part_code.specs.private.Refused.{IsRefusedRun}
+use Rattle.part_code.specs.private.Stretching.{IsEnd, AreCodedTo}
+use Rattle.part_code.proofs.Refusing.{among_at, side_known, unknown_at, with_keys_most, run_within, same_sizes, sides_are, all_needed}
+use Rattle.part_code.proofs.Runs.{IsLineFor, at_drop, at_take, map_back, stretches_of}
 
 pub some_at : {A : Type 0} (xs : List A) (i : ℕ) → i < length xs → (x : A) × (slice_get xs i ≡ Some x)
 some_at [] i lt = absurd (omega (arith, lt))
 some_at (x ∷ xs) zero lt = (x, refl)
 some_at (x ∷ xs) (suc i) lt = some_at xs i (omega (arith, lt))
 
-among_at : (entries : List Entry) (i : ℕ) (e : Entry) → slice_get entries i ≡ Some e → IsAmong e entries
-among_at [] i e found = absurd (none-some e found)
-among_at (first ∷ rest) zero e found = inl (same_Some first e found)
-among_at (first ∷ rest) (suc i) e found = inr (among_at rest i e found)
-
 laid_at : (keys : List CellKey) (lines : List PartLine) (j : ℕ) (line : PartLine) → AreLaidOutFor keys lines → slice_get lines j ≡ Some line → IsLaidOutFor keys line
 laid_at keys [] j line laid found = absurd (none-some line found)
 laid_at keys (first ∷ lines) zero line laid found = subst (IsLaidOutFor keys) (same_Some first line found) laid.0
 laid_at keys (first ∷ lines) (suc j) line laid found = laid_at keys lines j line laid.1 found
+
+-- a line whose name has no cell is not laid out
+pub not_laid : (keys : List CellKey) (lines : List PartLine) (i : ℕ) (d line : PartLine) → i < length lines → line ≡ get_or lines i d → cell_of keys (Value line.name) ≡ None → AreLaidOutFor keys lines → ⊥
+not_laid keys lines i d line lt is none laid = false≢true (subst IsSome none (laid_at keys lines i line laid (slice_get-get_or lines i d lt ∙ ap Some (sym is))).0)
 
 either : (a b : Bool) → a || b ≡ true → (a ≡ true) ⊎ (b ≡ true)
 either true b h = inl refl
@@ -65,7 +68,7 @@ asked_line (line ∷ lines) k has =
     by_line (inr others) rest = let (j, other, found, asks) = rest others in (suc j, other, found, asks)
 
 module _ (equations : List Equation) (names : List FlatName) (entries : List Entry) (lines : List PartLine) (keys : List CellKey) (are : ArePartLines equations entries (length entries) lines) (keys_are : keys ≡ with_keys [] (keys_of_lines lines)) where
-  laid : AreLaidOutFor keys lines
+  pub laid : AreLaidOutFor keys lines
   laid = subst (λ ks. AreLaidOutFor ks lines) (sym keys_are) (all_laid lines).0
 
   pub whole : AreWhole keys
@@ -116,3 +119,58 @@ module _ (equations : List Equation) (names : List FlatName) (entries : List Ent
             cell = ap (λ x. cell_of keys (Value x)) name ∙ cell;
             reads = subst (λ d. HasAll keys (keys_read d e.clock Now)) (sym side) (subst (λ place. HasAll keys (keys_read line.side.now place Now)) is.class reads);
           }
+
+  long : length lines ≡ length entries
+  long = are.size
+
+  -- more cells than there are numbers
+  pub too_many_keys : 2 ^ 32 ≤ length (with_keys [] (keys_of_lines lines)) → HasNoCode equations names entries
+  too_many_keys many = large (
+    map (λ line. line.side.now) lines,
+    sides_are equations entries lines long line_is,
+    let some = with_keys_most [] (keys_of_lines lines) in let all = all_needed equations entries lines long line_is in omega (arith, many, some, all),
+  )
+
+  module _ (coded : List Line) (given : AreCodeLines keys lines (length lines) coded) where
+    side_is : (j : ℕ) (line : PartLine) (one : Line) → slice_get lines j ≡ Some line → slice_get coded j ≡ Some one → one.side.now ≡ line.side.now
+    side_is j line one found one_found = let (other, other_found, cell, name, side) = given.each j one one_found in side ∙ ap (λ l. l.side.now) (same_Some other line (sym other_found ∙ found))
+
+    -- the code of a run of lines is too long
+    too_long : (at : Cells) (m n : ℕ) → 2 ^ 32 ≤ length keys + length (plain.lines_code at (length keys) (lines_of (take m (drop n coded)))) → HasNoCode equations names entries
+    too_long at m n many = large (
+      map (λ line. line.side.now) lines,
+      sides_are equations entries lines long line_is,
+      let run = run_within at (length keys) coded m n in
+          let same = same_sizes lines coded given.size side_is in
+          let some = with_keys_most [] (keys_of_lines lines) in
+          let own = ap length keys_are in
+          let all = all_needed equations entries lines long line_is in
+          omega (arith, many, run, same, some, own, all),
+    )
+
+    -- the side in a place of a run is not known
+    not_known_at : (start end : ℕ) (first : Entry) → slice_get entries start ≡ Some first → IsEnd entries start end → (k : ℕ) (one : Line) → slice_get coded k ≡ Some one → start ≤ k → k < end
+        → (piece_of (keyed_cells keys names first.clock) one.side.now).known ≡ false → HasNoCode equations names entries
+    not_known_at start end first first_found run k one one_found from to unknown =
+        let at = keyed_cells keys names first.clock in
+        let (part, part_found, cell, name, side) = given.each k one one_found in
+        let (entry, entry_found, is) = are.each k part part_found in
+        let clock : entry.clock ≡ first.clock = run.same k first entry first_found from to entry_found in
+        let has : HasAll keys (keys_read part.side.now first.clock Now) = subst (λ c. HasAll keys (keys_read part.side.now c Now)) (is.class ∙ clock) (laid_at keys lines k part laid part_found).1 in
+        let none : (piece_of at part.side.now).known ≡ false = subst (λ e. (piece_of at e).known ≡ false) side unknown in
+        untyped entry (among_at entries k entry entry_found) part.side.now is.side (λ typed. false≢true (sym none ∙ side_known keys names first.clock part.side.now has typed))
+
+    -- a side of a run is not known
+    not_known : (start end : ℕ) (first : Entry) → slice_get entries start ≡ Some first → IsEnd entries start end → are_known (keyed_cells keys names first.clock) (lines_of (take (end - start) (drop start coded))) ≡ false → HasNoCode equations names entries
+    not_known start end first first_found run none =
+        let at = keyed_cells keys names first.clock in
+        let (j, line, line_found, unknown) = unknown_at at (lines_of (take (end - start) (drop start coded))) none in
+        let (one, one_found, one_is) = map_back line_of (take (end - start) (drop start coded)) j line line_found in
+        let (less, one_at) = at_take (drop start coded) (end - start) j one one_found in
+        not_known_at start end first first_found run (start + j) one (sym (at_drop coded start j) ∙ one_at) (omega arith) (omega (arith, less)) (subst (λ l. (piece_of at l.side).known ≡ false) (sym one_is) unknown)
+
+    pub no_code : IsRefusedRun names keys entries coded → HasNoCode equations names entries
+    no_code run = elim run.refused [
+      | inl unknown ↦ not_known run.start run.end run.first run.found run.run unknown
+      | inr many ↦ too_long (keyed_cells keys names run.first.clock) (run.end - run.start) run.start many
+    ]

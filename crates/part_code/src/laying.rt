@@ -1,10 +1,12 @@
 //! The cells of lines, and where the values of their names stand.
-ghost use Rattle.std.specs.Prelude.{◌≡◌, [], length, IfOk};
+ghost use Rattle.std.specs.Prelude.{◌≡◌, ◌≤◌, ◌^◌, [], length, IfOk, IfErr};
 ghost use Rattle.cell_keys.specs.Cells.{with_keys};
 ghost use Rattle.flat_model.specs.Typing.{types_in};
 ghost use Rattle.part_layout.specs.Keyed.{is_boolean as boolean_in};
+ghost use Rattle.part_layout.specs.LayoutLaws.{AreLaidOutFor};
 ghost use Rattle.part_layout.specs.Reads.{keys_of_lines};
 ghost use Rattle.part_code.specs.private.Lines.{AreLandedTo, AreCodeLines};
+ghost use Rattle.part_code.specs.private.Refused.{IsDueTo};
 
 use crate::coded::Landing;
 use cell_keys::{CellKey, CellKeys, NoCell};
@@ -14,18 +16,16 @@ use std::alloc::Global;
 use step_code::NoCode;
 use step_lines::Line;
 
-fn no_cell(error: NoCell) -> NoCode {
-    match error {
-        NoCell::Memory => NoCode::Memory,
-        NoCell::Large => NoCode::Large,
-    }
-}
-
 /// The cells of lines.
 pub(crate) fn keys_for(alloc: Global, lines: &[PartLine<'_>]) -> Result<CellKeys, NoCode>
-    ensures { IfOk result (λ keys. keys ≡ with_keys [] (keys_of_lines lines.now)) }
+    ensures keys { IfOk result (λ keys. keys ≡ with_keys [] (keys_of_lines lines.now)) }
+    ensures refused { IfErr result (IsDueTo (2 ^ 32 ≤ length (with_keys [] (keys_of_lines lines.now)))) }
 {
-    lay_out(alloc, lines).map_err(no_cell)
+    match lay_out(alloc, lines) {
+        Ok(keys) => Ok(keys),
+        Err(NoCell::Memory) => Err(NoCode::Memory),
+        Err(NoCell::Large) => Err(NoCode::Large),
+    }
 }
 
 /// Whether a name is a Boolean.
@@ -49,7 +49,8 @@ pub(crate) fn landings_for(
     keys: &CellKeys,
     lines: &[PartLine<'_>],
 ) -> Result<Vec<Landing>, NoCode>
-    ensures { IfOk result (λ landings. AreLandedTo names.now keys.now lines.now (length lines.now) landings.items) }
+    ensures landings { IfOk result (λ landings. AreLandedTo names.now keys.now lines.now (length lines.now) landings.items) }
+    ensures refused { IfErr result (IsDueTo (AreLaidOutFor keys.now lines.now → ⊥)) }
 {
     let mut landings = Vec::new(alloc);
     for line in lines {
@@ -71,7 +72,8 @@ pub(crate) fn code_lines<'a>(
     keys: &CellKeys,
     lines: &[PartLine<'a>],
 ) -> Result<Vec<Line<'a>>, NoCode>
-    ensures { IfOk result (λ coded. AreCodeLines keys.now lines.now (length lines.now) coded.items) }
+    ensures lines { IfOk result (λ coded. AreCodeLines keys.now lines.now (length lines.now) coded.items) }
+    ensures refused { IfErr result (IsDueTo (AreLaidOutFor keys.now lines.now → ⊥)) }
 {
     let mut coded = Vec::new(alloc);
     for line in lines {

@@ -1,10 +1,12 @@
 //! The whole preparation.
-ghost use Rattle.std.specs.Prelude.{IfOk, IfSome};
+ghost use Rattle.std.specs.Prelude.{IfOk, IfErr, IfSome, IfNone};
 ghost use Rattle.part_code.specs.Coded.{IsCodeOf};
+ghost use Rattle.part_code.specs.Uncoded.{HasNoCode};
+ghost use Rattle.part_code.specs.private.Refused.{IsDueTo};
 
 use crate::coded::Coded;
 use crate::laying::{code_lines, keys_for, landings_for};
-use crate::sides::{lines_for, made_sides};
+use crate::sides::{lines_for, sides_for};
 use crate::stretching::{room_for, stretches_for};
 use flat_model::FlatModel;
 use std::alloc::{AllocError, Global};
@@ -13,11 +15,12 @@ use tree_step::Entry;
 
 /// The code of entries, or why there is none.
 fn code_of(alloc: Global, flat: &FlatModel, entries: &[Entry]) -> Result<Coded, NoCode>
-    ensures { IfOk result (IsCodeOf flat.now.equations flat.now.names entries.now) }
+    ensures code { IfOk result (IsCodeOf flat.now.equations flat.now.names entries.now) }
+    ensures refused { IfErr result (IsDueTo (HasNoCode flat.now.equations flat.now.names entries.now)) }
 {
     let names = flat.names.as_slice();
-    let made = made_sides(alloc, flat, entries)?;
-    let lines = lines_for(alloc, flat, entries, &made)?;
+    let sides = sides_for(alloc, flat, entries)?;
+    let lines = lines_for(alloc, entries, &sides)?;
     let keys = keys_for(alloc, &lines)?;
     let landings = landings_for(alloc, names, &keys, &lines)?;
     let coded = code_lines(alloc, &keys, &lines)?;
@@ -32,8 +35,9 @@ fn code_of(alloc: Global, flat: &FlatModel, entries: &[Entry]) -> Result<Coded, 
     })
 }
 
-/// The uses of a base partition as prepared code, given as entries by the places of their clocks. There is none where an
-/// equation cannot be solved for its name, and where cells or instructions have no numbers of 32 bits.
+/// The uses of a base partition as prepared code, given as entries by the places of their clocks. There is none only where
+/// an equation cannot be solved for its name, where a side has no type, and where cells or instructions have no numbers of
+/// 32 bits.
 ///
 /// # Errors
 ///
@@ -45,7 +49,8 @@ pub fn prepare_code(
     flat: &FlatModel,
     entries: &[Entry],
 ) -> Result<Option<Coded>, AllocError>
-    ensures { IfOk result (λ coded. IfSome coded (IsCodeOf flat.now.equations flat.now.names entries.now)) }
+    ensures code { IfOk result (λ coded. IfSome coded (IsCodeOf flat.now.equations flat.now.names entries.now)) }
+    ensures none { IfOk result (λ coded. IfNone coded (HasNoCode flat.now.equations flat.now.names entries.now)) }
 {
     match code_of(alloc, flat, entries) {
         Ok(coded) => Ok(Some(coded)),

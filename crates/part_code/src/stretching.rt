@@ -1,8 +1,9 @@
 //! The stretches of code, one for each run of entries of one clock.
-ghost use Rattle.std.specs.Prelude.{◌≡◌, ℕ, ◌<◌, ◌≤◌, Some, length, slice_get, take, IfOk, All};
+ghost use Rattle.std.specs.Prelude.{◌≡◌, ℕ, ◌<◌, ◌≤◌, Some, length, slice_get, IfOk, IfErr, All};
 ghost use Rattle.tree_step.specs.declared.taking.Entry.{Entry};
 ghost use Rattle.part_stretches.specs.Running.{IsRunWithin};
 ghost use Rattle.part_code.specs.private.Stretching.{AreCodedTo, IsEnd, clock_in};
+ghost use Rattle.part_code.specs.private.Refused.{IsDueTo, IsRefusedRun};
 
 use cell_keys::{CellKeys, Sight};
 use flat_model::FlatName;
@@ -45,7 +46,8 @@ pub(crate) fn stretches_for(
     lines: &[Line<'_>],
 ) -> Result<Vec<ClassStretch>, NoCode>
     requires { length lines.now ≡ length entries.now }
-    ensures { IfOk result (λ stretches. AreCodedTo names.now keys.now entries.now lines.now (length entries.now) stretches.items) }
+    ensures stretches { IfOk result (λ stretches. AreCodedTo names.now keys.now entries.now lines.now (length entries.now) stretches.items) }
+    ensures refused { IfErr result (IsDueTo (IsRefusedRun names.now keys.now entries.now lines.now)) }
 {
     let mut stretches = Vec::new(alloc);
     let mut start = 0;

@@ -1,5 +1,5 @@
 -- The lines of entries, as they are found and given cells.
-use Rattle.std.specs.Prelude.{◌≡◌, ℕ, List, length, Option, Some, IfSome, slice_get}
+use Rattle.std.specs.Prelude.{◌≡◌, ℕ, List, length, Some, slice_get}
 use Rattle.flat_model.specs.declared.equation.Equation.{Equation}
 use Rattle.flat_model.specs.declared.expression.Expr.{Expr}
 use Rattle.flat_model.specs.declared.model.FlatName.{FlatName}
@@ -12,12 +12,25 @@ use Rattle.part_layout.specs.declared.lines.PartLine.{PartLine}
 use Rattle.part_layout.specs.Keyed.{is_boolean}
 use Rattle.tree_step.specs.declared.taking.Entry.{Entry}
 use Rattle.part_code.specs.declared.coded.Landing.{Landing}
+use Rattle.part_code.specs.declared.sides.NameSide.{NameSide}
+use Rattle.part_code.specs.declared.sides.NameSide.TheVariants.{Lent, Made}
 use Rattle.part_code.specs.Coded.{IsSideOf}
 
--- for the first entries the sides that were made for them, where some were
-pub record AreMadeTo (equations : List Equation) (entries : List Entry) (i : ℕ) (made : List (Option Expr)) : Type 0 where
-  pub size : length made ≡ i
-  pub each : (j : ℕ) (side : Option Expr) → slice_get made j ≡ Some side → (entry : Entry) × (slice_get entries j ≡ Some entry) × IfSome side (IsSideOf equations entry)
+-- the expression of a side
+abbrev pub expr_of : NameSide → Expr
+expr_of (Lent side) = side.now
+expr_of (Made side) = side
+
+-- the first entries have their sides
+pub record AreSidesTo (equations : List Equation) (entries : List Entry) (i : ℕ) (sides : List NameSide) : Type 0 where
+  pub size : length sides ≡ i
+  pub each : (j : ℕ) (side : NameSide) → slice_get sides j ≡ Some side → (entry : Entry) × (slice_get entries j ≡ Some entry) × IsSideOf equations entry (expr_of side)
+
+-- the first lines are made of entries and of sides
+pub record AreJoinedTo (entries : List Entry) (sides : List NameSide) (i : ℕ) (lines : List PartLine) : Type 0 where
+  pub size : length lines ≡ i
+  pub entry : (j : ℕ) (line : PartLine) → slice_get lines j ≡ Some line → (entry : Entry) × (slice_get entries j ≡ Some entry) × (line.name ≡ entry.name) × (line.class ≡ entry.clock)
+  pub side : (j : ℕ) (line : PartLine) → slice_get lines j ≡ Some line → (side : NameSide) × (slice_get sides j ≡ Some side) × (line.side.now ≡ expr_of side)
 
 -- a line is that of an entry
 pub record IsLineOf (equations : List Equation) (entry : Entry) (line : PartLine) : Type 0 where

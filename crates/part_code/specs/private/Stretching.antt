@@ -1,5 +1,5 @@
 -- The stretches of entries, as they are made.
-use Rattle.std.specs.Prelude.{◌≡◌, ℕ, ◌<◌, ◌≤◌, ◌+◌, ◌-◌, List, [], ◌∷◌, length, Option, Some, None, slice_get, take, drop}
+use Rattle.std.specs.Prelude.{◌≡◌, ℕ, ◌<◌, ◌≤◌, ◌-◌, List, [], ◌∷◌, length, Option, Some, None, slice_get, take, drop}
 use Rattle.flat_model.specs.declared.model.FlatName.{FlatName}
 use Rattle.cell_keys.specs.declared.key.CellKey.{CellKey}
 use Rattle.step_lines.specs.declared.stretch.Line.{Line}

@@ -1,4 +1,4 @@
-use Rattle.std.proofs.Common.{rules, ◌≡◌, ap, subst, sym, length, ◌≤◌, arith}
+use Rattle.std.proofs.Common.{rules, subst, length, ◌≤◌, arith}
 use Rattle.step_code.specs.Machine.{AreWithin}
 use Rattle.part_code.proofs.Runs.{within_next, within_all}
 use Rattle.part_code.proofs.stretching.room_for.Goals as goal

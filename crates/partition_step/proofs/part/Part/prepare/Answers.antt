@@ -9,7 +9,7 @@ pub returns-clause-prepared : goal.returns-clause-prepared
 returns-clause-prepared c =
     let cells : c.in_ok-cells.cells.items ≡ map (new_cell c.args.flat.now.names) c.args.uses.now = c.in_ok-cells.ensures ∙ ap (λ names. map (new_cell names) c.args.uses.now) c.as_slice.ensures in
     let room : length c.in_ok-clocks.clocks.items ≡ length c.in_ok-laid.laid.classes.items = sym c.in_ok-clocks.clocks.ok.0 ∙ c.in_ok-clocks.ensures.len ∙ c.len.ensures ∙ c.in_ok-laid.laid.classes.ok.0 in
-    let coded : IfSome c.in_ok-code.code (IsCodeOf c.args.flat.now.equations c.args.flat.now.names c.in_ok-laid.laid.entries) = subst (λ es. IfSome c.in_ok-code.code (IsCodeOf c.args.flat.now.equations c.args.flat.now.names es)) c.as_slice-2.ensures c.in_ok-code.ensures in
+    let coded : IfSome c.in_ok-code.code (IsCodeOf c.args.flat.now.equations c.args.flat.now.names c.in_ok-laid.laid.entries) = subst (λ es. IfSome c.in_ok-code.code (IsCodeOf c.args.flat.now.equations c.args.flat.now.names es)) c.as_slice-2.ensures c.in_ok-code.ensures.code in
     prepares c.args.flat.now c.args.clocking.now c.args.uses.now c.args.places.now c.place.new.places
     (record { entries = c.in_ok-laid.laid.entries; cells = c.in_ok-cells.cells; classes = c.in_ok-laid.laid.classes; clocks = c.in_ok-clocks.clocks; code = c.in_ok-code.code })
     c.in_ok-laid.ensures cells room coded c.place.ensures.own
