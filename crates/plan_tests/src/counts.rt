@@ -1,5 +1,8 @@
-use crate::given::{Form, clocking, instant, model, table};
+use crate::given::{Form, case_given};
+use crate::planning::assert_for;
 use Form::{Every, Risings};
+use std::alloc::Global;
+use std::process::Abort;
 use tick_plan::{FractionPlan, GridPlan, PlanEnd};
 
 /// A clocking and a table up to a stop of whole seconds, and the count of rows and ticks where it is too large.
@@ -13,7 +16,7 @@ struct Case {
     too_many: Option<u128>,
 }
 
-const CASES: [Case; 8] = [
+static CASES: [Case; 8] = [
     // The row at 0, and the ticks from 0 to 67,108,862.
     Case {
         name: "the greatest count",
@@ -94,18 +97,50 @@ fn count_of<P: Drop>(answer: Result<P, PlanEnd>) -> Option<u128> {
     }
 }
 
+fn grid_count(rt: &impl Abort, alloc: Global, case: &Case) -> Option<u128> {
+    let given = case_given(
+        rt,
+        alloc,
+        case.table,
+        case.clocks,
+        case.grid,
+        (case.stop, 1),
+    );
+    count_of(GridPlan::new(
+        alloc,
+        &given.flat,
+        &given.clocking,
+        &given.table,
+        given.stop,
+    ))
+}
+
+fn fraction_count(rt: &impl Abort, alloc: Global, case: &Case) -> Option<u128> {
+    let given = case_given(
+        rt,
+        alloc,
+        case.table,
+        case.clocks,
+        case.grid,
+        (case.stop, 1),
+    );
+    count_of(FractionPlan::new(
+        alloc,
+        &given.flat,
+        &given.clocking,
+        &given.table,
+        given.stop,
+    ))
+}
+
 /// Neither plan is made where there are too many rows and ticks.
 #[test]
 fn too_many_rows_and_ticks(rt: HostRuntime) {
     let alloc = rt.alloc();
     for case in &CASES {
-        let flat = model(&rt, alloc, !case.table.is_empty());
-        let rows = table(&rt, alloc, &flat, case.table);
-        let clocks = clocking(&rt, alloc, case.clocks, case.grid);
-        let stop = instant(&rt, (case.stop, 1));
-        let grid = GridPlan::new(alloc, &flat, &clocks, &rows, stop);
-        assert!(&rt; count_of(grid) == case.too_many, "{}", case.name);
-        let fractions = FractionPlan::new(alloc, &flat, &clocks, &rows, stop);
-        assert!(&rt; count_of(fractions) == case.too_many, "{}", case.name);
+        let grid = grid_count(&rt, alloc, case);
+        assert_for(&rt, grid == case.too_many, case.name);
+        let fractions = fraction_count(&rt, alloc, case);
+        assert_for(&rt, fractions == case.too_many, case.name);
     }
 }

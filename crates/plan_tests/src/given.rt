@@ -54,7 +54,7 @@ fn model_of(rt: &impl Abort, alloc: Global, first: FlatName, second: FlatName) -
 }
 
 /// A model of `u` and `y`, of which `u` may be an input.
-pub(crate) fn model(rt: &impl Abort, alloc: Global, input: bool) -> FlatModel
+fn model(rt: &impl Abort, alloc: Global, input: bool) -> FlatModel
     ensures { IsModel result }
 {
     let first = name(rt, alloc, b"u", input);
@@ -63,7 +63,7 @@ pub(crate) fn model(rt: &impl Abort, alloc: Global, input: bool) -> FlatModel
 }
 
 /// The table of the bytes of a file, or that of no file where there are none.
-pub(crate) fn table(rt: &impl Abort, alloc: Global, flat: &FlatModel, bytes: &[u8]) -> Table
+fn table(rt: &impl Abort, alloc: Global, flat: &FlatModel, bytes: &[u8]) -> Table
     requires { IsModel flat.now }
     ensures { IsTableOf flat.now result }
 {
@@ -81,7 +81,7 @@ fn ratio(rt: &impl Abort, parts: Parts) -> Ratio {
 }
 
 /// An instant that a run may stop at.
-pub(crate) fn instant(rt: &impl Abort, parts: Parts) -> Ratio
+fn instant(rt: &impl Abort, parts: Parts) -> Ratio
     ensures { IsTime result }
 {
     let at = ratio(rt, parts);
@@ -165,7 +165,7 @@ fn are_clocks(clocking: &Clocking, grid: u64) -> bool
 }
 
 /// The clocking of a class for each of these clocks, and of two sites. The grid is a common denominator of the clocks.
-pub(crate) fn clocking(rt: &impl Abort, alloc: Global, forms: &[Form], grid: u64) -> Clocking
+fn clocking(rt: &impl Abort, alloc: Global, forms: &[Form], grid: u64) -> Clocking
     ensures clocks { AreClocks result }
     ensures sites { length result.sites ≡ 2 }
 {
@@ -174,4 +174,39 @@ pub(crate) fn clocking(rt: &impl Abort, alloc: Global, forms: &[Form], grid: u64
     assert!(rt; grid < 1 << 40);
     assert!(rt; are_clocks(&clocking, grid));
     clocking
+}
+
+/// What a plan is made of: a model, a table of it, a clocking over two sites, and a stop.
+#[derive(Drop)]
+pub(crate) struct Given {
+    pub(crate) flat: FlatModel,
+    pub(crate) table: Table,
+    pub(crate) clocking: Clocking,
+    pub(crate) stop: Ratio,
+}
+
+/// The model, table, clocking and stop of a case.
+pub(crate) fn case_given(
+    rt: &impl Abort,
+    alloc: Global,
+    bytes: &[u8],
+    forms: &[Form],
+    grid: u64,
+    stop: Parts,
+) -> Given
+    ensures table { IsTableOf result.flat result.table }
+    ensures clocks { AreClocks result.clocking }
+    ensures sites { length result.clocking.sites ≡ 2 }
+    ensures stop { IsTime result.stop }
+{
+    let flat = model(rt, alloc, !bytes.is_empty());
+    let table = table(rt, alloc, &flat, bytes);
+    let clocking = clocking(rt, alloc, forms, grid);
+    let stop = instant(rt, stop);
+    Given {
+        flat,
+        table,
+        clocking,
+        stop,
+    }
 }

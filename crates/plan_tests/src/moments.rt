@@ -1,10 +1,15 @@
 ghost use Rattle.std.specs.Prelude.{◌≡◌, length};
+ghost use Rattle.tick_plan.specs.Seen.{grid_seen};
+ghost use Rattle.tick_plan.specs.SeenFractions.{fraction_seen};
 
-use crate::given::{Form, Parts, clocking, instant, model, table};
-use crate::planning::{fraction_plan, go_on, grid_plan, is_at, is_initial};
+use crate::given::{Form, Parts};
+use crate::planning::{
+    assert_for, assert_number, assert_tick, fraction_plan, go_on, grid_plan, is_at, is_initial,
+};
 use Form::{Every, Risings};
+use std::alloc::Global;
 use std::process::Abort;
-use tick_plan::TickSource;
+use tick_plan::{FractionPlan, GridPlan, TickSource};
 
 /// An instant, and the classes that tick at it.
 type Instant = (u64, u64, &'static [u32]);
@@ -33,7 +38,7 @@ const BOTH: [bool; 2] = [true, true];
 /// Every second from 0 on.
 const SECONDS: Form = Every((1, 1), (0, 1));
 
-const PERIODIC: [Case; 12] = [
+static PERIODIC: [Case; 12] = [
     Case {
         name: "a clock and a table",
         table: b"time,u\n0,5\n1,7\n",
@@ -180,7 +185,7 @@ const PERIODIC: [Case; 12] = [
     },
 ];
 
-const EVENTS: [Case; 3] = [
+static EVENTS: [Case; 3] = [
     Case {
         name: "each rising and each second one",
         table: b"time,u\n0,1\n1,5\n2,6\n3,0\n4,9\n",
@@ -236,7 +241,7 @@ fn assert_ticks<P: TickSource>(rt: &impl Abort, plan: &P, case: &Case, ticks: &[
         for other in ticks {
             wanted = wanted || *other == class;
         }
-        assert_eq!(rt; plan.ticking(class), wanted, "{}: class {class}", case.name);
+        assert_tick(rt, plan.ticking(class), wanted, case.name, class);
     }
 }
 
@@ -245,7 +250,7 @@ fn assert_moments<P: TickSource>(rt: &impl Abort, plan: &mut P, case: &Case)
     requires { length (P.planned plan.old).noted ≡ 2 }
 {
     assert_ticks(rt, plan, case, &[]);
-    assert!(rt; is_initial(go_on(plan, NONE)), "{}", case.name);
+    assert_for(rt, is_initial(go_on(plan, NONE)), case.name);
     assert_ticks(rt, plan, case, &[]);
     for (i, instant) in case.instants.iter().enumerate() {
         let (num, den, ticks) = *instant;
@@ -258,31 +263,51 @@ fn assert_moments<P: TickSource>(rt: &impl Abort, plan: &mut P, case: &Case)
         assert_ticks(rt, plan, case, ticks);
     }
     for _ in 0..3 {
-        assert!(rt; go_on(plan, NONE).is_none(), "{}", case.name);
+        assert_for(rt, go_on(plan, NONE).is_none(), case.name);
     }
+}
+
+fn plan_in_units(rt: &impl Abort, alloc: Global, case: &Case) -> GridPlan
+    ensures { length (grid_seen result).noted ≡ 2 }
+{
+    grid_plan(rt, alloc, case.table, case.clocks, case.grid, case.stop)
+}
+
+fn plan_on_fractions(rt: &impl Abort, alloc: Global, case: &Case) -> FractionPlan
+    ensures { length (fraction_seen result).noted ≡ 2 }
+{
+    fraction_plan(rt, alloc, case.table, case.clocks, case.grid, case.stop)
+}
+
+/// Asserts that the plan in units gives the moments of a case.
+fn assert_grid(rt: &impl Abort, alloc: Global, case: &Case) {
+    let mut plan = plan_in_units(rt, alloc, case);
+    assert_number(rt, plan.denominator(), case.grid, case.name);
+    assert_moments(rt, &mut plan, case);
+}
+
+/// Asserts that the plan on fractions gives the moments of a case.
+fn assert_fractions(rt: &impl Abort, alloc: Global, case: &Case) {
+    let mut plan = plan_on_fractions(rt, alloc, case);
+    assert_moments(rt, &mut plan, case);
 }
 
 /// Both plans give the moments of each case.
 #[test]
 fn moments_and_ticks(rt: HostRuntime) {
     let alloc = rt.alloc();
-    for cases in [PERIODIC.as_slice(), EVENTS.as_slice()] {
-        for case in cases {
-            let flat = model(&rt, alloc, !case.table.is_empty());
-            let rows = table(&rt, alloc, &flat, case.table);
-            let clocks = clocking(&rt, alloc, case.clocks, case.grid);
-            let stop = instant(&rt, case.stop);
-            let mut grid = grid_plan(&rt, alloc, &flat, &clocks, &rows, stop);
-            assert_eq!(&rt; grid.denominator(), case.grid, "{}", case.name);
-            assert_moments(&rt, &mut grid, case);
-            let mut fractions = fraction_plan(&rt, alloc, &flat, &clocks, &rows, stop);
-            assert_moments(&rt, &mut fractions, case);
-        }
+    for case in &PERIODIC {
+        assert_grid(&rt, alloc, case);
+        assert_fractions(&rt, alloc, case);
+    }
+    for case in &EVENTS {
+        assert_grid(&rt, alloc, case);
+        assert_fractions(&rt, alloc, case);
     }
 }
 
 /// Two clocks of 1/3 and 1/2 over ten seconds.
-const LONG: Case = Case {
+static LONG: Case = Case {
     name: "thirds and halves of ten seconds",
     table: b"",
     clocks: &[Every((1, 3), (0, 1)), Every((1, 2), (0, 1))],
@@ -292,35 +317,39 @@ const LONG: Case = Case {
     rises: &[],
 };
 
+/// Asserts an instant of the thirds and halves, and the classes that tick at it.
+fn assert_long<P: TickSource>(rt: &impl Abort, plan: &mut P, at: Parts, ticks: &[u32])
+    requires { length (P.planned plan.old).noted ≡ 2 }
+    ensures { length (P.planned plan.new).noted ≡ 2 }
+{
+    let moment = go_on(plan, NONE);
+    assert!(rt; is_at(moment, at));
+    assert_ticks(rt, plan, &LONG, ticks);
+}
+
 /// Asserts the 41 instants of the thirds and halves.
 fn assert_thirds_and_halves<P: TickSource>(rt: &impl Abort, plan: &mut P)
     requires { length (P.planned plan.old).noted ≡ 2 }
 {
     assert!(rt; is_initial(go_on(plan, NONE)));
     for second in 0..10u64 {
-        assert!(rt; is_at(go_on(plan, NONE), (second, 1)));
-        assert_ticks(rt, plan, &LONG, &[0, 1]);
-        assert!(rt; is_at(go_on(plan, NONE), (3 * second + 1, 3)));
-        assert_ticks(rt, plan, &LONG, &[0]);
-        assert!(rt; is_at(go_on(plan, NONE), (2 * second + 1, 2)));
-        assert_ticks(rt, plan, &LONG, &[1]);
-        assert!(rt; is_at(go_on(plan, NONE), (3 * second + 2, 3)));
-        assert_ticks(rt, plan, &LONG, &[0]);
+        assert_long(rt, plan, (second, 1), &[0, 1]);
+        assert_long(rt, plan, (3 * second + 1, 3), &[0]);
+        assert_long(rt, plan, (2 * second + 1, 2), &[1]);
+        assert_long(rt, plan, (3 * second + 2, 3), &[0]);
     }
-    assert!(rt; is_at(go_on(plan, NONE), (10, 1)));
-    assert_ticks(rt, plan, &LONG, &[0, 1]);
+    assert_long(rt, plan, (10, 1), &[0, 1]);
     assert!(rt; go_on(plan, NONE).is_none());
 }
 
 #[test]
-fn thirds_and_halves_over_ten_seconds(rt: HostRuntime) {
-    let alloc = rt.alloc();
-    let flat = model(&rt, alloc, false);
-    let rows = table(&rt, alloc, &flat, LONG.table);
-    let clocks = clocking(&rt, alloc, LONG.clocks, LONG.grid);
-    let stop = instant(&rt, LONG.stop);
-    let mut grid = grid_plan(&rt, alloc, &flat, &clocks, &rows, stop);
-    assert_thirds_and_halves(&rt, &mut grid);
-    let mut fractions = fraction_plan(&rt, alloc, &flat, &clocks, &rows, stop);
-    assert_thirds_and_halves(&rt, &mut fractions);
+fn thirds_and_halves_in_units(rt: HostRuntime) {
+    let mut plan = plan_in_units(&rt, rt.alloc(), &LONG);
+    assert_thirds_and_halves(&rt, &mut plan);
+}
+
+#[test]
+fn thirds_and_halves_on_fractions(rt: HostRuntime) {
+    let mut plan = plan_on_fractions(&rt, rt.alloc(), &LONG);
+    assert_thirds_and_halves(&rt, &mut plan);
 }

@@ -1,15 +1,12 @@
 ghost use Rattle.std.specs.Prelude.{◌≡◌, false, [], ◌∷◌, Some, length, if◌then◌else◌};
 ghost use Rattle.rational_time.specs.declared.ratio.Ratio.{Ratio};
 ghost use Rattle.flat_model.specs.declared.clock.Moment.TheVariants.{At};
-ghost use Rattle.flat_model.specs.Runnable.{AreClocks};
-ghost use Rattle.flat_model.specs.Tables.{IsTableOf, IsTime};
 ghost use Rattle.tick_plan.specs.Plans.{CanRise, after_rise};
 ghost use Rattle.tick_plan.specs.Seen.{grid_seen};
 ghost use Rattle.tick_plan.specs.SeenFractions.{fraction_seen};
 
-use crate::given::Parts;
-use flat_model::{Clocking, FlatModel, Moment, Table};
-use rational_time::Ratio;
+use crate::given::{Form, Parts, case_given};
+use flat_model::Moment;
 use std::alloc::Global;
 use std::process::Abort;
 use tick_plan::{FractionPlan, GridPlan, TickSource};
@@ -18,36 +15,44 @@ use tick_plan::{FractionPlan, GridPlan, TickSource};
 pub(crate) fn grid_plan(
     rt: &impl Abort,
     alloc: Global,
-    flat: &FlatModel,
-    clocking: &Clocking,
-    table: &Table,
-    stop: Ratio,
+    bytes: &[u8],
+    forms: &[Form],
+    grid: u64,
+    stop: Parts,
 ) -> GridPlan
-    requires table { IsTableOf flat.now table.now }
-    requires clocks { AreClocks clocking.now }
-    requires sites { length clocking.now.sites ≡ 2 }
-    requires stop { IsTime stop }
     ensures { length (grid_seen result).noted ≡ 2 }
 {
-    GridPlan::new(alloc, flat, clocking, table, stop).expect(rt, "a plan")
+    let given = case_given(rt, alloc, bytes, forms, grid, stop);
+    GridPlan::new(
+        alloc,
+        &given.flat,
+        &given.clocking,
+        &given.table,
+        given.stop,
+    )
+    .expect(rt, "a plan")
 }
 
 /// A plan on fractions, over two sites.
 pub(crate) fn fraction_plan(
     rt: &impl Abort,
     alloc: Global,
-    flat: &FlatModel,
-    clocking: &Clocking,
-    table: &Table,
-    stop: Ratio,
+    bytes: &[u8],
+    forms: &[Form],
+    grid: u64,
+    stop: Parts,
 ) -> FractionPlan
-    requires table { IsTableOf flat.now table.now }
-    requires clocks { AreClocks clocking.now }
-    requires sites { length clocking.now.sites ≡ 2 }
-    requires stop { IsTime stop }
     ensures { length (fraction_seen result).noted ≡ 2 }
 {
-    FractionPlan::new(alloc, flat, clocking, table, stop).expect(rt, "a plan")
+    let given = case_given(rt, alloc, bytes, forms, grid, stop);
+    FractionPlan::new(
+        alloc,
+        &given.flat,
+        &given.clocking,
+        &given.table,
+        given.stop,
+    )
+    .expect(rt, "a plan")
 }
 
 /// Notes a site, if it rises.
@@ -97,4 +102,19 @@ pub(crate) fn is_initial(moment: Option<Moment>) -> bool {
         Some(Moment::Initial) => true,
         _ => false,
     }
+}
+
+/// Asserts a fact of a case.
+pub(crate) fn assert_for(rt: &impl Abort, holds: bool, name: &str) {
+    assert!(rt; holds, "{name}");
+}
+
+/// Asserts a number of a case.
+pub(crate) fn assert_number(rt: &impl Abort, found: u64, wanted: u64, name: &str) {
+    assert_eq!(rt; found, wanted, "{name}");
+}
+
+/// Asserts whether a class of a case ticks.
+pub(crate) fn assert_tick(rt: &impl Abort, found: bool, wanted: bool, name: &str, class: u32) {
+    assert_eq!(rt; found, wanted, "{name}: class {class}");
 }

@@ -2,10 +2,13 @@ ghost use Rattle.std.specs.Prelude.{◌≡◌, length};
 ghost use Rattle.tick_plan.specs.Seen.{grid_seen};
 ghost use Rattle.tick_plan.specs.SeenFractions.{fraction_seen};
 
-use crate::given::{Form, Parts, clocking, instant, model, table};
-use crate::planning::{fraction_plan, go_on, grid_plan, is_at};
+use crate::given::{Form, Parts};
+use crate::planning::{
+    assert_for, assert_number, assert_tick, fraction_plan, go_on, grid_plan, is_at,
+};
 use Form::{Every, Risings};
 use flat_model::Moment;
+use std::alloc::Global;
 use std::process::Abort;
 use tick_plan::{FractionPlan, GridPlan, Ticking};
 
@@ -22,7 +25,7 @@ struct Case {
 
 const CONTROLLER: [Form; 2] = [Every((1, 1000), (0, 1)), Every((1, 100), (0, 1))];
 
-const CASES: [Case; 4] = [
+static CASES: [Case; 4] = [
     // Initial, and each half second up to 50.
     Case {
         name: "a clock half a second after another",
@@ -73,11 +76,12 @@ fn are_same(a: Option<Moment>, b: Option<Moment>) -> bool {
 /// Asserts that the same of three classes tick.
 fn assert_same_ticks(rt: &impl Abort, grid: &GridPlan, fractions: &FractionPlan, case: &Case) {
     for class in 0..3u32 {
-        assert_eq!(rt;
+        assert_tick(
+            rt,
             grid.ticking(class),
             fractions.ticking(class),
-            "{}",
-            case.name
+            case.name,
+            class,
         );
     }
 }
@@ -96,7 +100,8 @@ fn moments_of_both(
     for number in 0..2000u64 {
         let rises = [number % 2 == 0, number % 3 == 0];
         let moment = go_on(grid, rises);
-        assert!(rt; are_same(moment, go_on(fractions, rises)), "{}", case.name);
+        let same = are_same(moment, go_on(fractions, rises));
+        assert_for(rt, same, case.name);
         assert_same_ticks(rt, grid, fractions, case);
         if moment.is_none() {
             return number;
@@ -105,19 +110,20 @@ fn moments_of_both(
     2000
 }
 
+/// Asserts what both plans of a case give.
+fn assert_both(rt: &impl Abort, alloc: Global, case: &Case) {
+    let mut grid = grid_plan(rt, alloc, case.table, case.clocks, case.grid, case.stop);
+    let mut fractions = fraction_plan(rt, alloc, case.table, case.clocks, case.grid, case.stop);
+    assert_number(rt, grid.denominator(), case.grid, case.name);
+    let found = moments_of_both(rt, &mut grid, &mut fractions, case);
+    assert_number(rt, found, case.moments, case.name);
+}
+
 #[test]
 fn both_plans_side_by_side(rt: HostRuntime) {
     let alloc = rt.alloc();
     for case in &CASES {
-        let flat = model(&rt, alloc, !case.table.is_empty());
-        let rows = table(&rt, alloc, &flat, case.table);
-        let clocks = clocking(&rt, alloc, case.clocks, case.grid);
-        let stop = instant(&rt, case.stop);
-        let mut grid = grid_plan(&rt, alloc, &flat, &clocks, &rows, stop);
-        assert_eq!(&rt; grid.denominator(), case.grid);
-        let mut fractions = fraction_plan(&rt, alloc, &flat, &clocks, &rows, stop);
-        let found = moments_of_both(&rt, &mut grid, &mut fractions, case);
-        assert_eq!(&rt; found, case.moments, "{}", case.name);
+        assert_both(&rt, alloc, case);
     }
 }
 
@@ -130,8 +136,11 @@ fn go_on_by(rt: &impl Abort, plan: &mut GridPlan, moments: u64)
     }
 }
 
-/// After so many moments the next ticks of four classes: two clocks in seconds, a class of events, and no class.
-const NEXT: [(u64, [Option<u64>; 4]); 7] = [
+/// A number of moments, and after them the next ticks of four classes.
+type Next = (u64, [Option<u64>; 4]);
+
+/// The next ticks of two clocks in seconds, a class of events, and no class.
+const NEXT: [Next; 7] = [
     (0, [Some(0), Some(0), None, None]),
     // Initial.
     (1, [Some(0), Some(0), None, None]),
@@ -146,19 +155,29 @@ const NEXT: [(u64, [Option<u64>; 4]); 7] = [
     (23, [None, None, None, None]),
 ];
 
+/// The table of the controller.
+const ROWS: &[u8] = b"time,u\n0,60\n0.005,70\n0.0105,90\n";
+
+/// The clocks of the controller, and a class of events.
+static FORMS: [Form; 3] = [
+    Every((1, 1000), (0, 1)),
+    Every((1, 100), (0, 1)),
+    Risings(0, 1, 0),
+];
+
+/// Asserts the next ticks of the controller after so many moments.
+fn assert_next_ticks(rt: &impl Abort, alloc: Global, next: &Next) {
+    let mut plan = grid_plan(rt, alloc, ROWS, &FORMS, 1000, (1, 50));
+    go_on_by(rt, &mut plan, next.0);
+    for (class, units) in next.1.iter().enumerate() {
+        let found = plan.next_tick(class as u32);
+        assert!(rt; found == *units, "{}: {class}", next.0);
+    }
+}
+
 #[test]
 fn next_ticks_in_units(rt: HostRuntime) {
-    let alloc = rt.alloc();
-    let flat = model(&rt, alloc, true);
-    let rows = table(&rt, alloc, &flat, b"time,u\n0,60\n0.005,70\n0.0105,90\n");
-    let forms = [CONTROLLER[0], CONTROLLER[1], Risings(0, 1, 0)];
-    let clocks = clocking(&rt, alloc, &forms, 1000);
-    let stop = instant(&rt, (1, 50));
-    for (given, wanted) in &NEXT {
-        let mut plan = grid_plan(&rt, alloc, &flat, &clocks, &rows, stop);
-        go_on_by(&rt, &mut plan, *given);
-        for (class, units) in wanted.iter().enumerate() {
-            assert!(&rt; plan.next_tick(class as u32) == *units, "{given}: {class}");
-        }
+    for next in &NEXT {
+        assert_next_ticks(&rt, rt.alloc(), next);
     }
 }
