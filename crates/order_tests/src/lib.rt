@@ -13,4 +13,6 @@ mod models;
 #[cfg(test)]
 mod orders;
 #[cfg(test)]
+mod reads;
+#[cfg(test)]
 mod solving;
