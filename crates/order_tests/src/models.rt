@@ -25,6 +25,10 @@ pub(crate) enum Side {
     TakenFromTen(u32),
     /// `x > 0`
     IsPositive(u32),
+    /// `-x`
+    Negated(u32),
+    /// `not x`
+    Inverted(u32),
 }
 
 /// A clock with the parts of its period and of its start in seconds, or one of the first site with its factor and shift.
@@ -89,18 +93,32 @@ fn expr(rt: &impl Abort, alloc: Global, side: Side) -> Expr {
             let zero = boxed(rt, alloc, number(0));
             Expr::Relation(Rel::Greater, boxed(rt, alloc, Expr::Read(name)), zero)
         }
+        Side::Negated(name) => Expr::Neg(boxed(rt, alloc, Expr::Read(name))),
+        Side::Inverted(name) => Expr::Not(boxed(rt, alloc, Expr::Read(name))),
     }
 }
 
+/// The model with Integers as names.
 pub(crate) fn flat_model(rt: &impl Abort, alloc: Global, model: &Model) -> FlatModel {
+    flat_model_of(rt, alloc, NameKind::Integer, Value::Int(0), model)
+}
+
+/// The model with names of a kind that start with a value.
+pub(crate) fn flat_model_of(
+    rt: &impl Abort,
+    alloc: Global,
+    kind: NameKind,
+    start: Value,
+    model: &Model,
+) -> FlatModel {
     let mut names = List::new(alloc);
     for text in &NAMES {
         if names.len() < model.names.len() {
             let name = FlatName {
                 text: Text::from_bytes(alloc, text.as_bytes()).expect(rt, "memory"),
-                kind: NameKind::Integer,
+                kind,
                 input: false,
-                start: Value::Int(0),
+                start,
             };
             names.push(name).expect(rt, "memory");
         }

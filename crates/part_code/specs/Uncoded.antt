@@ -28,11 +28,12 @@ pub record IsTypedSide (names : List FlatName) (side : Expr) : Type 0 where
   pub typed : type_of (types_in names) side ≡ Some type
   pub plain : samples_are_plain side ≡ true
 
+-- the sum of several numbers
 abbrev pub total : List ℕ → ℕ
 total [] = 0
 total (n ∷ ns) = n + total ns
 
--- how many instructions an expression needs at most: one for each value, operator and function, and two for the jumps of each branch
+-- how many instructions a level of an expression needs at most with its parts: one for each value, operator and function, and two for the jumps of each branch
 abbrev pub instructions_of_level : Expr-F (Unit {0}) ℕ → ℕ
 instructions_of_level (Expr-F.Chain parts ops) = total parts + length parts
 instructions_of_level (Expr-F.Relation rel left right) = left + right + 1
@@ -43,6 +44,7 @@ instructions_of_level (Expr-F.Apply function parts) = total parts + 1
 instructions_of_level (Expr-F.Sample part clock) = part
 instructions_of_level _ = 1
 
+-- the same of a whole expression
 unfoldable pub most_instructions : Expr → ℕ
 most_instructions = fold-Expr (Unit {0}) ℕ (λ _. tt) instructions_of_level
 
@@ -57,7 +59,7 @@ abbrev pub most_needed : List Entry → List Expr → ℕ
 most_needed (entry ∷ entries) (side ∷ sides) = 1 + length (keys_read side entry.clock Now) + most_instructions side + most_needed entries sides
 most_needed _ _ = 0
 
--- entries need so many cells and instructions that these have no numbers of 32 bits
+-- entries may need so many cells and instructions that these have no numbers of 32 bits
 abbrev pub AreTooLarge : List Equation → List Entry → Type 0
 AreTooLarge equations entries = (sides : List Expr) × AreSidesOf equations entries sides × (2 ^ 32 ≤ most_needed entries sides)
 
