@@ -11,7 +11,7 @@ use sub_clock_solve::{conflict_law, one_answer_law, one_clocking_law};
 type Row = (&'static str, &'static str, &'static str);
 
 /// Periodic clocks.
-const PERIODIC: [Row; 16] = [
+static PERIODIC: [Row; 16] = [
     (
         "input Integer u; Integer y;",
         "y = sample(u, Clock(1));",
@@ -102,7 +102,7 @@ const PERIODIC: [Row; 16] = [
 ];
 
 /// Clocks of events. Each constructor is a site of its own.
-const EVENTS: [Row; 7] = [
+static EVENTS: [Row; 7] = [
     (
         "input Integer u; Integer n; Integer h;",
         "when Clock(u > 3) then n = previous(n) + 1; end when; h = subSample(n,2);",
@@ -144,7 +144,7 @@ const EVENTS: [Row; 7] = [
 ];
 
 /// Numbers at the limit of 2^40: 1048575 * 1048577 is 2^40 - 1, and 1048576 * 1048576 is 2^40.
-const LIMITS: [Row; 13] = [
+static LIMITS: [Row; 13] = [
     (
         "Integer x; Integer y;",
         "when Clock(1048575) then x = previous(x) + 1; end when; y = subSample(x, 1048577);",
@@ -216,7 +216,7 @@ const LIMITS: [Row; 13] = [
 ];
 
 /// The rules that models break.
-const REFUSALS: [Row; 29] = [
+static REFUSALS: [Row; 29] = [
     (
         "input Integer u; Integer x;",
         "when Clock(1) then x = u; end when;",
@@ -369,7 +369,7 @@ const REFUSALS: [Row; 29] = [
 ];
 
 /// Clockings in all their parts.
-const PARTS: [Row; 4] = [
+static PARTS: [Row; 4] = [
     (
         "Integer p; Integer a; Integer q; Integer b;",
         "when Clock(1,2) then p = previous(p) + 1; a = div(6, 2 - p); end when; when Clock(1,4) then q = previous(q) + 1; b = div(6, 3 - q); end when;",

@@ -13,7 +13,7 @@ struct Case {
     classes: &'static [&'static [u32]],
 }
 
-const SMALL: [Case; 9] = [
+static SMALL: [Case; 9] = [
     Case {
         name: "no number",
         count: 0,

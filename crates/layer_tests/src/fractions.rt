@@ -153,7 +153,7 @@ const MALFORMED: Result<Parts, RatioFault> = Err(RatioFault::Malformed);
 
 const TOO_FINE: Result<Parts, RatioFault> = Err(RatioFault::TooFine);
 
-const TIMES: [(&str, Result<Parts, RatioFault>); 24] = [
+static TIMES: [(&str, Result<Parts, RatioFault>); 24] = [
     ("0", Ok((0, 1))),
     ("01", Ok((1, 1))),
     ("3/2", Ok((3, 2))),
@@ -180,7 +180,7 @@ const TIMES: [(&str, Result<Parts, RatioFault>); 24] = [
     ("1e3", MALFORMED),
 ];
 
-const WRITTEN: [(Parts, &str); 3] = [((6, 4), "3/2"), ((7, 1), "7"), ((0, 9), "0")];
+static WRITTEN: [(Parts, &str); 3] = [((6, 4), "3/2"), ((7, 1), "7"), ((0, 9), "0")];
 
 fn is_written(rt: &impl Abort, alloc: Global, a: Parts, text: &str) -> bool {
     let written = ratio(rt, a).to_string(alloc).expect(rt, "memory");

@@ -13,7 +13,7 @@ fn bytes_of(rt: &impl Abort, alloc: Global, text: &str) -> Vec<u8> {
     Vec::from_slice(alloc, text.as_bytes()).expect(rt, "memory")
 }
 
-const FILES: [(&str, &str); 3] = [("a", "hello"), ("empty", ""), ("a", "other")];
+static FILES: [(&str, &str); 3] = [("a", "hello"), ("empty", ""), ("a", "other")];
 
 /// A shelf that holds `hello`, an empty file, and a second file of the first name.
 fn shelf_of(rt: &impl Abort, alloc: Global, chunk: usize, failing: &[u64]) -> MemShelf
@@ -30,7 +30,7 @@ fn shelf_of(rt: &impl Abort, alloc: Global, chunk: usize, failing: &[u64]) -> Me
 }
 
 /// A name, a place, and the answer with the bytes that a read from there gives, of which the second fails.
-const READS: [(&str, u64, Read, &str); 7] = [
+static READS: [(&str, u64, Read, &str); 7] = [
     ("a", 0, Read::Bytes(2), "he"),
     ("a", 2, Read::Failed, ""),
     ("a", 3, Read::Bytes(2), "lo"),
@@ -69,7 +69,7 @@ fn is_whole(found: &Result<Vec<u8>, ReadEnd>, wanted: Result<&[u8], ReadEnd>) ->
 /// A name, a limit, the numbers of the reads that fail, and what a read of the whole file gives.
 type Whole = (&'static str, u64, [u64; 2], Result<&'static [u8], ReadEnd>);
 
-const WHOLES: [Whole; 5] = [
+static WHOLES: [Whole; 5] = [
     ("a", 5, [9, 9], Ok(b"hello")),
     ("a", 4, [9, 9], Err(ReadEnd::TooLong)),
     ("empty", 0, [9, 9], Ok(b"")),
@@ -106,7 +106,7 @@ type Puts = (
     &'static str,
 );
 
-const PUTS: [Puts; 4] = [
+static PUTS: [Puts; 4] = [
     (4, 1, 9, Ok(()), FAILED, "abcd"),
     (8, 1, 9, Ok(()), Ok(()), "abcdef"),
     (8, 2, 2, FAILED, Ok(()), "abdef"),

@@ -34,7 +34,7 @@ fn has_fault(rt: &impl Abort, alloc: Global, text: &[u8], code: LexCode, at: u32
     assert!(rt; end == Some(LexEnd::Fault { code, at }), "at {text:?}");
 }
 
-const TEXTS: [(&[u8], &[Place]); 22] = [
+static TEXTS: [(&[u8], &[Place]); 22] = [
     (b"", &[(End, 0, 0)]),
     (
         b"\xEF\xBB\xBFmodel M",
@@ -128,7 +128,7 @@ fn tokens_follow_their_law() {
     tokens_law(b"x");
 }
 
-const FAULTS: [(&[u8], LexCode, u32); 14] = [
+static FAULTS: [(&[u8], LexCode, u32); 14] = [
     (b"model M\n/* x\nend M;", LexCode::L2, 8),
     (b"model M @ end M;", LexCode::L1, 8),
     (b"model M Integer x = 9223372036854775808;", LexCode::L3, 20),

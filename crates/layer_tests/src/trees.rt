@@ -20,7 +20,7 @@ fn has_fault(rt: &impl Abort, alloc: Global, text: &[u8], code: SyntaxCode, at: 
     parsed(rt, alloc, text).err() == Some(ParseEnd::Fault { code, at })
 }
 
-const FAULTS: [(&[u8], SyntaxCode, u32); 9] = [
+static FAULTS: [(&[u8], SyntaxCode, u32); 9] = [
     (b"model A end", SyntaxCode::S1, 11),
     (b"model A end B;", SyntaxCode::S1, 12),
     (b"model A Real x[3]; end A;", SyntaxCode::S3, 14),
@@ -64,7 +64,7 @@ type Depth = (
 );
 
 // A closing bracket directly behind the opening one of level 65 stands outside this pair.
-const DEPTHS: [Depth; 11] = [
+static DEPTHS: [Depth; 11] = [
     (EQUATION, b"(", b"1", 64, None),
     (
         EQUATION,
@@ -287,7 +287,7 @@ fn replaced(rt: &impl Abort, alloc: Global, text: &[u8], token: Token, by: &[u8]
     other
 }
 
-const REPLACEMENTS: [(&[u8], SyntaxCode); 3] = [
+static REPLACEMENTS: [(&[u8], SyntaxCode); 3] = [
     (b" ] ", SyntaxCode::S1),
     (b" while ", SyntaxCode::S3),
     (b" 1.5 ", SyntaxCode::S3),

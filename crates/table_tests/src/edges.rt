@@ -1,4 +1,8 @@
-use crate::tables::{model, name, one_input, read};
+ghost use Rattle.flat_model.specs.Models.{IsModel};
+
+use crate::tables::{assert_read, model, name, one_input};
+use flat_model::FlatModel;
+use std::alloc::Global;
 use std::process::Abort;
 
 /// The bytes of a table of the input `u`, and what is told of the answer.
@@ -9,7 +13,7 @@ const ONE: &'static [i64] = &[0, 0, 1, 5];
 
 const TWO: &'static [i64] = &[0, 0, 1, 5, 1, 1, 7];
 
-const RECORDS: [Case; 23] = [
+static RECORDS: [Case; 23] = [
     // Quotes.
     (b"\"time\",\"u\"\n\"0\",\"5\"\n\"1\",\"7\"\n", TWO),
     (b"time,u\n0,\"5\"6\n", &[0, 0, 1, 56]),
@@ -40,7 +44,7 @@ const RECORDS: [Case; 23] = [
     (b"time,u,\xff\n0,5,6\n", &[3, 0, 3]),
 ];
 
-const NUMBERS: [Case; 19] = [
+static NUMBERS: [Case; 19] = [
     // A numerator and a denominator have 18 digits at most, and a fraction 9.
     (b"time,u\n000000000000000000,5\n", ONE),
     (b"time,u\n0/000000000000000001,5\n", ONE),
@@ -95,25 +99,29 @@ const NUMBERS: [Case; 19] = [
 #[test]
 fn records_and_bounds(rt: HostRuntime) {
     let flat = one_input(&rt, rt.alloc());
-    for cases in [RECORDS.as_slice(), NUMBERS.as_slice()] {
-        for (at, case) in cases.iter().enumerate() {
-            let (bytes, wanted) = *case;
-            let answer = read(&rt, rt.alloc(), &flat, bytes);
-            assert_eq!(&rt; answer.as_slice(), wanted, "case {at}");
-        }
+    for case in &RECORDS {
+        assert_read(&rt, rt.alloc(), &flat, case.0, case.1);
+    }
+    for case in &NUMBERS {
+        assert_read(&rt, rt.alloc(), &flat, case.0, case.1);
     }
 }
+
+/// An input `time` and a variable `y`, both Integer.
+fn one_called_time(rt: &impl Abort, alloc: Global) -> FlatModel
+    ensures { IsModel result }
+{
+    let input = name(rt, alloc, b"time", false, true);
+    let variable = name(rt, alloc, b"y", false, false);
+    model(rt, alloc, input, variable)
+}
+
+const MISSING: [i64; 5] = [2, b't' as i64, b'i' as i64, b'm' as i64, b'e' as i64];
 
 /// An input may have the name of the first column.
 #[test]
 fn an_input_may_be_called_time(rt: HostRuntime) {
-    let alloc = rt.alloc();
-    let input = name(&rt, alloc, b"time", false, true);
-    let variable = name(&rt, alloc, b"y", false, false);
-    let flat = model(&rt, alloc, input, variable);
-    let answer = read(&rt, alloc, &flat, b"time,time\n0,5\n");
-    assert_eq!(&rt; answer.as_slice(), ONE);
-    let answer = read(&rt, alloc, &flat, b"time\n0\n");
-    let missing = [2, b't' as i64, b'i' as i64, b'm' as i64, b'e' as i64];
-    assert_eq!(&rt; answer.as_slice(), missing.as_slice());
+    let flat = one_called_time(&rt, rt.alloc());
+    assert_read(&rt, rt.alloc(), &flat, b"time,time\n0,5\n", ONE);
+    assert_read(&rt, rt.alloc(), &flat, b"time\n0\n", &MISSING);
 }

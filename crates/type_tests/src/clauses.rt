@@ -13,7 +13,7 @@ use sync_values::List;
 
 /// The clock of a clause: a function, which has no name where its one argument stands alone, and its arguments; and the
 /// rule that it breaks.
-const CLOCKS: [(&[u8], &[Arg], Option<TypeCode>); 16] = [
+static CLOCKS: [(&[u8], &[Arg], Option<TypeCode>); 16] = [
     (b"", &[Name(C)], None),
     (b"Clock", &[], None),
     (b"Clock", &[Number(2)], None),
@@ -130,16 +130,30 @@ fn model(
     })
 }
 
+/// How the typing of such a model ends; none where it has types.
+fn end_of(
+    alloc: Global,
+    function: &[u8],
+    args: &[Arg],
+    rights: [Arg; 3],
+) -> Result<Option<TypeEnd>, AllocError> {
+    let raw = model(alloc, function, args, rights)?;
+    Ok(typed(alloc, &raw).err())
+}
+
+fn wanted(code: Option<TypeCode>) -> Option<TypeEnd> {
+    match code {
+        Some(code) => Some(TypeEnd::Fault { code, equation: 1 }),
+        None => None,
+    }
+}
+
 #[test]
 fn clauses_have_clocks(rt: HostRuntime) -> Result<(), Fail> {
     let alloc = rt.alloc();
-    for (function, args, code) in &CLOCKS {
-        let raw = model(alloc, *function, *args, [Number(1), Number(2), Number(3)])?;
-        let wanted = match *code {
-            Some(code) => Some(TypeEnd::Fault { code, equation: 1 }),
-            None => None,
-        };
-        assert_eq!(rt; typed(alloc, &raw).err(), wanted);
+    for row in &CLOCKS {
+        let found = end_of(alloc, row.0, row.1, [Number(1), Number(2), Number(3)])?;
+        assert_eq!(rt; found, wanted(row.2));
     }
     Ok(())
 }
@@ -149,8 +163,8 @@ fn a_clock_is_told_with_its_first_equation(rt: HostRuntime) -> Result<(), Fail> 
     let alloc = rt.alloc();
     for (rights, is_boolean, wanted) in &PLACES {
         let clock = if *is_boolean { B } else { C };
-        let raw = model(alloc, b"", &[Name(clock)], *rights)?;
-        assert_eq!(rt; typed(alloc, &raw).err(), *wanted);
+        let found = end_of(alloc, b"", &[Name(clock)], *rights)?;
+        assert_eq!(rt; found, *wanted);
     }
     Ok(())
 }

@@ -2,7 +2,7 @@
 use crate::models::Arg::{ByZero, IntervalOf, Name, Number, Truth};
 use crate::models::{Arg, C, X, argument, broken, call, chain};
 use flat_model::RawExpr;
-use flat_types::TypeCode;
+use flat_types::{TypeCode, TypeEnd};
 use std::alloc::{AllocError, Global};
 use std::test::Fail;
 use sync_values::{ChainOp, List, Text};
@@ -20,7 +20,7 @@ const COUNTERS: [(Arg, bool, bool); 8] = [
 ];
 
 /// The name on the left, a function, its arguments before a counter, and whether that is one from 0.
-const COUNTED: [(u32, &[u8], &[Arg], bool); 7] = [
+static COUNTED: [(u32, &[u8], &[Arg], bool); 7] = [
     (X, b"subSample", &[Name(X)], true),
     (X, b"superSample", &[Name(X)], true),
     (X, b"shiftSample", &[Name(X)], true),
@@ -31,7 +31,7 @@ const COUNTED: [(u32, &[u8], &[Arg], bool); 7] = [
 ];
 
 /// The first counter of a Clock before its resolution, and the only one, which is no Boolean.
-const FIRST: [(&[Arg], Option<TypeCode>); 12] = [
+static FIRST: [(&[Arg], Option<TypeCode>); 12] = [
     (&[Number(0), Number(2)], None),
     (&[Number(1), Number(2)], None),
     (&[Number(2_147_483_647), Number(2)], None),
@@ -83,40 +83,68 @@ fn wanted(taken: bool) -> Option<TypeCode> {
     if taken { None } else { Some(TypeCode::Y4) }
 }
 
+/// The arguments of a call: some, and a counter behind them.
+fn with_counter(alloc: Global, before: &[Arg], counter: Arg) -> Result<List<Arg>, AllocError> {
+    let mut args = List::new(alloc);
+    for arg in before {
+        args.push(*arg)?;
+    }
+    args.push(counter)?;
+    Ok(args)
+}
+
+/// The rule that an equation of a name and a call with a counter breaks.
+fn broken_by(
+    alloc: Global,
+    name: u32,
+    function: &[u8],
+    before: &[Arg],
+    counter: Arg,
+) -> Result<Option<TypeCode>, TypeEnd> {
+    let args = with_counter(alloc, before, counter)?;
+    let right = call(alloc, function, args.as_slice())?;
+    broken(alloc, RawExpr::Name(name), right)
+}
+
 #[test]
 fn counters_have_their_ranges(rt: HostRuntime) -> Result<(), Fail> {
     let alloc = rt.alloc();
-    for (left, function, before, from_zero) in &COUNTED {
+    for row in &COUNTED {
         for (counter, zero, one) in &COUNTERS {
-            let mut args = List::new(alloc);
-            for arg in *before {
-                args.push(*arg)?;
-            }
-            args.push(*counter)?;
-            let right = call(alloc, *function, args.as_slice())?;
-            let found = broken(alloc, RawExpr::Name(*left), right)?;
-            assert_eq!(rt; found, wanted(if *from_zero { *zero } else { *one }));
+            let found = broken_by(alloc, row.0, row.1, row.2, *counter)?;
+            assert_eq!(rt; found, wanted(if row.3 { *zero } else { *one }));
         }
     }
-    for (args, code) in &FIRST {
-        let right = call(alloc, b"Clock", *args)?;
-        assert_eq!(rt; broken(alloc, RawExpr::Name(C), right)?, *code);
+    Ok(())
+}
+
+#[test]
+fn first_counters_have_their_ranges(rt: HostRuntime) -> Result<(), Fail> {
+    let alloc = rt.alloc();
+    for row in &FIRST {
+        let right = call(alloc, b"Clock", row.0)?;
+        assert_eq!(rt; broken(alloc, RawExpr::Name(C), right)?, row.1);
     }
     Ok(())
+}
+
+/// The rule that an equation of x and `integer` of a chain breaks.
+fn broken_integer(alloc: Global, a: Arg, op: ChainOp, b: Arg) -> Result<Option<TypeCode>, TypeEnd> {
+    let right = integer_of(alloc, a, op, b)?;
+    broken(alloc, RawExpr::Name(X), right)
 }
 
 #[test]
 fn an_interval_stands_in_its_form(rt: HostRuntime) -> Result<(), Fail> {
     let alloc = rt.alloc();
     for (k, _, taken) in &COUNTERS {
-        let first = integer_of(alloc, IntervalOf(X), ChainOp::Times, *k)?;
-        assert_eq!(rt; broken(alloc, RawExpr::Name(X), first)?, wanted(*taken));
-        let second = integer_of(alloc, *k, ChainOp::Times, IntervalOf(X))?;
-        assert_eq!(rt; broken(alloc, RawExpr::Name(X), second)?, wanted(*taken));
+        let first = broken_integer(alloc, IntervalOf(X), ChainOp::Times, *k)?;
+        assert_eq!(rt; first, wanted(*taken));
+        let second = broken_integer(alloc, *k, ChainOp::Times, IntervalOf(X))?;
+        assert_eq!(rt; second, wanted(*taken));
     }
     for (a, op, b, code) in &PRODUCTS {
-        let right = integer_of(alloc, *a, *op, *b)?;
-        assert_eq!(rt; broken(alloc, RawExpr::Name(X), right)?, *code);
+        assert_eq!(rt; broken_integer(alloc, *a, *op, *b)?, *code);
     }
     Ok(())
 }

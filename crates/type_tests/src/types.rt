@@ -1,13 +1,15 @@
 use crate::models::Arg::{ByZero, IntervalFirst, IntervalSecond, Name, Number, Truth};
 use crate::models::{Arg, B, C, U, X, broken, call, chain};
 use flat_model::RawExpr;
-use flat_types::{TypeCode, answer_law};
+use flat_types::{TypeCode, TypeEnd, answer_law};
 use sqlite_items::Boxed;
+use std::alloc::{AllocError, Global};
+use std::process::Abort;
 use std::test::Fail;
 use sync_values::{ChainOp, List, Rel, Value};
 
 /// The name on the left, the function called on the right, its arguments, and the rule that the equation breaks.
-const CALLS: [(u32, &[u8], &[Arg], Option<TypeCode>); 93] = [
+static CALLS: [(u32, &[u8], &[Arg], Option<TypeCode>); 93] = [
     (X, b"previous", &[Name(X)], None),
     (X, b"previous", &[], Some(TypeCode::Y3)),
     (X, b"previous", &[Name(X), Name(X)], Some(TypeCode::Y3)),
@@ -136,44 +138,63 @@ const CALLS: [(u32, &[u8], &[Arg], Option<TypeCode>); 93] = [
 #[test]
 fn calls_have_their_arguments(rt: HostRuntime) -> Result<(), Fail> {
     let alloc = rt.alloc();
-    for (left, function, args, wanted) in &CALLS {
-        let right = call(alloc, *function, *args)?;
-        let found = broken(alloc, RawExpr::Name(*left), right)?;
-        assert_eq!(rt; found, *wanted);
+    for row in &CALLS {
+        let right = call(alloc, row.1, row.2)?;
+        let found = broken(alloc, RawExpr::Name(row.0), right)?;
+        assert_eq!(rt; found, row.3);
     }
+    Ok(())
+}
+
+fn one() -> RawExpr {
+    RawExpr::Const(Value::Int(1))
+}
+
+/// `1 op right`
+fn from_one(alloc: Global, op: ChainOp, right: RawExpr) -> Result<RawExpr, AllocError> {
+    chain(alloc, one(), op, right)
+}
+
+/// `1 < b`
+fn below_truth(alloc: Global) -> Result<RawExpr, AllocError> {
+    let left = Boxed::new(alloc, one())?;
+    let right = Boxed::new(alloc, RawExpr::Name(B))?;
+    Ok(RawExpr::Relation(Rel::Less, left, right))
+}
+
+/// `if b then 1 else b`
+fn mixed_choice(alloc: Global) -> Result<RawExpr, AllocError> {
+    let mut conditions = List::new(alloc);
+    conditions.push(RawExpr::Name(B))?;
+    let mut branches = List::new(alloc);
+    branches.push(one())?;
+    let other = Boxed::new(alloc, RawExpr::Name(B))?;
+    Ok(RawExpr::If(conditions, branches, other))
+}
+
+/// Asserts the rule that an equation of a name breaks.
+fn assert_broken(
+    rt: &impl Abort,
+    alloc: Global,
+    name: u32,
+    right: RawExpr,
+    wanted: TypeCode,
+) -> Result<(), TypeEnd> {
+    let found = broken(alloc, RawExpr::Name(name), right)?;
+    assert_eq!(rt; found, Some(wanted));
     Ok(())
 }
 
 #[test]
 fn operators_have_their_types(rt: HostRuntime) -> Result<(), Fail> {
     let alloc = rt.alloc();
-    let one = || RawExpr::Const(Value::Int(1));
-    let quotient = chain(alloc, one(), ChainOp::Over, one())?;
-    assert_eq!(rt;
-        broken(alloc, RawExpr::Name(X), quotient)?,
-        Some(TypeCode::Y5)
-    );
-    let mixed = chain(alloc, one(), ChainOp::Plus, RawExpr::Name(B))?;
-    assert_eq!(rt; broken(alloc, RawExpr::Name(X), mixed)?, Some(TypeCode::Y1));
-    assert_eq!(rt;
-        broken(alloc, RawExpr::Name(X), RawExpr::Time)?,
-        Some(TypeCode::Y5)
-    );
-    let below = RawExpr::Relation(
-        Rel::Less,
-        Boxed::new(alloc, one())?,
-        Boxed::new(alloc, RawExpr::Name(B))?,
-    );
-    assert_eq!(rt; broken(alloc, RawExpr::Name(B), below)?, Some(TypeCode::Y1));
-    let mut conditions = List::new(alloc);
-    conditions.push(RawExpr::Name(B))?;
-    let mut branches = List::new(alloc);
-    branches.push(one())?;
-    let choice = RawExpr::If(conditions, branches, Boxed::new(alloc, RawExpr::Name(B))?);
-    assert_eq!(rt;
-        broken(alloc, RawExpr::Name(X), choice)?,
-        Some(TypeCode::Y1)
-    );
+    let quotient = from_one(alloc, ChainOp::Over, one())?;
+    assert_broken(&rt, alloc, X, quotient, TypeCode::Y5)?;
+    let mixed = from_one(alloc, ChainOp::Plus, RawExpr::Name(B))?;
+    assert_broken(&rt, alloc, X, mixed, TypeCode::Y1)?;
+    assert_broken(&rt, alloc, X, RawExpr::Time, TypeCode::Y5)?;
+    assert_broken(&rt, alloc, B, below_truth(alloc)?, TypeCode::Y1)?;
+    assert_broken(&rt, alloc, X, mixed_choice(alloc)?, TypeCode::Y1)?;
     answer_law();
     Ok(())
 }

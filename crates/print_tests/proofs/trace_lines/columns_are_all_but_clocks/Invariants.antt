@@ -2,8 +2,8 @@ use Rattle.std.proofs.Common.{◌≡◌, ◌≤◌, length}
 use Rattle.flat_model.specs.Trace.{header_text}
 use Rattle.print_tests.proofs.trace_lines.columns_are_all_but_clocks.Given as goal
 
-abbrev pub invariant-loop-num : goal.invariant-loop-num
-invariant-loop-num g l = record {
+abbrev pub invariant-loop-row : goal.invariant-loop-row
+invariant-loop-row g l = record {
   columns : l.line.columns ≡ 3;
   header : length (header_text l.flat.names) ≤ l.line.bytes;
 }
