@@ -152,7 +152,7 @@ def main():
     parser.add_argument("program")
     parser.add_argument("other", nargs="?")
     parser.add_argument("--runs", type=int, default=5)
-    options = parser.parse_args()
+    options = parser.parse_intermixed_args()
     programs = [os.path.abspath(program) for program in (options.program, options.other) if program]
     with tempfile.TemporaryDirectory() as folder:
         bench = Bench(programs, options.runs, pathlib.Path(folder))
