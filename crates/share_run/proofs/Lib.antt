@@ -1,0 +1,5 @@
+pub mod Starts
+pub mod Slots
+pub mod Owned
+pub mod Waiting
+pub mod Kept
