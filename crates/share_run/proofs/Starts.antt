@@ -1,5 +1,5 @@
 -- The base partitions of a share before a moment.
-use Rattle.std.proofs.Common.{◌≡◌, refl, ap, ◌∙◌, sym, ℕ, List, [], ◌∷◌, ◌++◌, Some, slice_get, Contains, inl, inr, subst}
+use Rattle.std.proofs.Common.{◌≡◌, ap, ◌∙◌, sym, ℕ, List, ◌++◌, Some, slice_get, Contains, inl, inr, subst}
 use Rattle.flat_model.specs.declared.equation.Equation.{Equation}
 use Rattle.flat_model.specs.declared.equation.Equation.TheVariants.{Valued, Clocks}
 use Rattle.flat_model.specs.Answers.{value_in}
@@ -19,6 +19,7 @@ use Rattle.moment_steps.proofs.Rows.{base_typed, base_sound, piece_clear, cut}
 use Rattle.moment_steps.proofs.Starting.{valued_name}
 use Rattle.moment_theory.specs.Division.{joined}
 use Rattle.moment_theory.specs.Free.{IsOrdered}
+use Rattle.moment_theory.proofs.Beside.{regroup}
 use Rattle.moment_theory.proofs.FromRunnable.{all_at}
 use Rattle.moment_theory.proofs.Named.{typed_names}
 use Rattle.partition_step.specs.Parts.{IsPiece}
@@ -30,10 +31,6 @@ use Rattle.share_run.specs.Taking.{Values, Plan, IsShareAt, CanTakeShare}
 use Rattle.tree_step.specs.Starts.{uses_of}
 
 -- ---- lists of uses
-
-regroup : (a b c : List Use) → (a ++ b) ++ c ≡ a ++ (b ++ c)
-regroup [] b c = refl
-regroup (x ∷ a) b c = ap (λ us. x ∷ us) (regroup a b c)
 
 cut_order : (pure ps later front piece back : List Use) → ps ≡ front ++ (piece ++ back) → pure ++ (ps ++ later) ≡ (pure ++ front) ++ (piece ++ (back ++ later))
 cut_order pure ps later front piece back is =

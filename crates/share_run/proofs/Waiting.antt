@@ -65,7 +65,7 @@ none_both (Some one) (Some other) none = absurd (some_by (nat_le one.equation ot
     some_by true is = none-some one (sym is)
     some_by false is = none-some other (sym is)
 
-none_each : (each : List (Option EquationFailing)) → earliest each ≡ None → (i : ℕ) (told : Option EquationFailing) → slice_get each i ≡ Some told → told ≡ None
+pub none_each : (each : List (Option EquationFailing)) → earliest each ≡ None → (i : ℕ) (told : Option EquationFailing) → slice_get each i ≡ Some told → told ≡ None
 none_each [] none i told found = absurd (none-some told found)
 none_each (first ∷ each) none zero told found = sym (same_Some first told found) ∙ (none_both first (earliest each) none).0
 none_each (first ∷ each) none (suc i) told found = none_each each (none_both first (earliest each) none).1 i told found

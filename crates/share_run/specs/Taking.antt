@@ -14,6 +14,7 @@ use Rattle.fork_steps.specs.declared.slot.Slot.{Slot}
 use Rattle.moment_body.specs.declared.model.ClockedModel.{ClockedModel}
 use Rattle.moment_body.specs.Stages.{IsModelOf}
 use Rattle.moment_join.specs.Told.{earliest}
+use Rattle.moment_moves.specs.Moments.{IsFirstSite}
 use Rattle.moment_steps.specs.declared.piece.Piece.{Piece}
 use Rattle.moment_steps.specs.Settled.{own_uses}
 use Rattle.moment_steps.specs.Ticked.{row_ticks}
@@ -93,3 +94,19 @@ TakesShare h model plan slots base last told =
 abbrev pub KeepsShare : Holding → Holding → ClockedModel → Plan → Values → Values → Option EquationFailing → Type 0
 KeepsShare h new model plan base last told = told ≡ None → (s : Setting) (uses pure others : List Use) (A : Assignment) (n : ℕ) → IsShareAt h model plan base s uses pure others A n
     → (T : Assignment) → GoesOnBeside s others A n (value_in last) plan.ticks T → IsShareBefore s uses others T (suc n) new
+
+-- over what the pure uses left neither one of them fails nor a site
+pub record IsQuietOver (s : Setting) (uses pure : List Use) (A : Assignment) (n : ℕ) (base : Row) : Type 0 where
+  pub pure_told : IsLeast (FailsAmong s uses A n pure base) None
+  pub site_told : IsFirstSite s (with_row A n base) n None
+
+-- something goes on with a row, whatever the others give, and its sites answer as over what the pure uses left
+pub record HasNext (s : Setting) (others : List Use) (A : Assignment) (n : ℕ) (base row : Row) (ticks : ℕ → Bool) : Type 0 where
+  pub next : Assignment
+  pub goes_on : GoesOnBeside s others A n row ticks next
+  pub alike : (site : ℕ) → site_answer s (with_row A n base) site n ≡ site_answer s next site n
+
+-- so it is where no pure use, no site and no use of the share fails
+abbrev pub GoesOnShare : Holding → ClockedModel → Plan → Values → Values → Option EquationFailing → Type 0
+GoesOnShare h model plan base last told = told ≡ None → (s : Setting) (uses pure others : List Use) (A : Assignment) (n : ℕ) → IsShareAt h model plan base s uses pure others A n
+    → IsQuietOver s uses pure A n (value_in base) → HasNext s others A n (value_in base) (value_in last) plan.ticks

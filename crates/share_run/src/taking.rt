@@ -3,7 +3,7 @@ ghost use Rattle.std.specs.Prelude.{◌≡◌, length};
 ghost use Rattle.moment_steps.specs.private.Opening.{value_by};
 ghost use Rattle.partition_step.specs.private.Writing.{IsWritten};
 ghost use Rattle.share_run.specs.Standing.{holding_of};
-ghost use Rattle.share_run.specs.Taking.{plan_of, CanTakeShare, TakesShare, KeepsShare};
+ghost use Rattle.share_run.specs.Taking.{plan_of, CanTakeShare, TakesShare, KeepsShare, GoesOnShare};
 ghost use Rattle.tree_step.specs.Starts.{CanStart};
 ghost use Rattle.tree_step.specs.Takes.{TakesUses};
 
@@ -113,6 +113,7 @@ pub fn step_moment<R: Threads + Sync, G: Gate + Sync>(
     requires can { CanTakeShare (holding_of uses.now slots.old cells.old left.old) model.now (plan_of moment.now) moment.now.base.items }
     ensures wide { length now.new ≡ length now.old }
     ensures takes { TakesShare (holding_of uses.entry.now slots.old cells.old left.old) model.entry.now (plan_of moment.entry.now) slots.new moment.entry.now.base.items now.new result }
+    ensures goes { GoesOnShare (holding_of uses.entry.now slots.old cells.old left.old) model.entry.now (plan_of moment.entry.now) moment.entry.now.base.items now.new result }
     ensures keeps { KeepsShare (holding_of uses.entry.now slots.old cells.old left.old) (holding_of uses.entry.now slots.new cells.new left.new) model.entry.now (plan_of moment.entry.now) moment.entry.now.base.items now.new result }
 {
     now.copy_from_slice(&moment.base);
