@@ -57,7 +57,7 @@ use Rattle.moment_steps.proofs.Rows.{reached_first, reached_second, base_clocked
 use Rattle.moment_steps.proofs.Starting.{valued_within}
 
 -- where no use gives, nothing changes
-rests_taken : (s : Setting) (S : Assignment) (m : ℕ) (base : Row) (us : List Use) → ((entry : Use) → IsMember entry us → (v : Value) → Gives s S m base entry v → ⊥) → AreTaken s S m us base base
+pub rests_taken : (s : Setting) (S : Assignment) (m : ℕ) (base : Row) (us : List Use) → ((entry : Use) → IsMember entry us → (v : Value) → Gives s S m base entry v → ⊥) → AreTaken s S m us base base
 rests_taken s S m base [] never = λ y. refl
 rests_taken s S m base (entry ∷ us) never = (base, inr (never entry (inl refl), λ y. refl), rests_taken s S m base us (λ other member. never other (inr member)))
 
@@ -66,23 +66,23 @@ partition_is : (s : Setting) (o : Option ℕ) → partition_by s.clocking.partit
 partition_is s None = refl
 partition_is s (Some class) = refl
 
-class_in_partition : (s : Setting) (o : Option ℕ) (i : ℕ) → partition_of s o ≡ Some i → (class : ℕ) × (o ≡ Some class) × (slice_get s.clocking.partitions class ≡ Some i)
+pub class_in_partition : (s : Setting) (o : Option ℕ) (i : ℕ) → partition_of s o ≡ Some i → (class : ℕ) × (o ≡ Some class) × (slice_get s.clocking.partitions class ≡ Some i)
 class_in_partition s None i is = absurd (none-some i is)
 class_in_partition s (Some class) i is = (class, refl, is)
 
-if_told : (b : Bool) (told : Option EquationFailing) → b ≡ true → (if b then told else None) ≡ told
+pub if_told : (b : Bool) (told : Option EquationFailing) → b ≡ true → (if b then told else None) ≡ told
 if_told true told is = refl
 if_told false told is = absurd (false≢true is)
 
-if_none : {A : Type 0} (b : Bool) (a : Option A) → b ≡ false → (if b then a else None) ≡ None
+pub if_none : {A : Type 0} (b : Bool) (a : Option A) → b ≡ false → (if b then a else None) ≡ None
 if_none true a is = absurd (false≢true (sym is))
 if_none false a is = refl
 
-if_value : (b : Bool) (a : Option Value) → b ≡ true → (if b then a else None) ≡ a
+pub if_value : (b : Bool) (a : Option Value) → b ≡ true → (if b then a else None) ≡ a
 if_value true a is = refl
 if_value false a is = absurd (false≢true is)
 
-outcome_is : (result : Outcome) → failing_in result ≡ None → result ≡ Stepped
+pub outcome_is : (result : Outcome) → failing_in result ≡ None → result ≡ Stepped
 outcome_is Stepped none = refl
 outcome_is (Failed failing) none = absurd (none-some failing (sym none))
 

@@ -32,6 +32,7 @@ use Rattle.tree_step.specs.Takes.{TakesUses, HasTaken}
 use Rattle.moment_body.specs.declared.model.ClockedModel.{ClockedModel}
 use Rattle.moment_body.specs.Stages.{Stages}
 use Rattle.moment_body.specs.Stepping.{Values, Standing, Based, IsBefore, CanTakePure, HasTakenPure, TakesPure}
+use Rattle.side_theory.specs.Typed.{valued_before}
 use Rattle.partition_step.specs.private.Writing.{IsWritten}
 use Rattle.moment_steps.specs.declared.piece.Piece.{Piece}
 use Rattle.moment_steps.specs.declared.taking.UnclockedReads.{UnclockedReads}
@@ -87,7 +88,7 @@ module _ (pure waiting : List Entry) (noted : UnclockedReads) (always : List Clo
       lasts entry equation z among found asks valued = absurd (clockless_last entry equation z among found asks)
 
       pure_starts : IsStart s uses [] behind A n (value_in now) (record { equations = s.model.equations; places = numbers; left = left; clocks = always }) pure shown
-      pure_starts = starts s uses [] behind pure before.moment.staged.are.ordered A n before.moment.meets pure waiting noted always numbers before.stands.settled left now (λ x. Ticks) cells shown before.stands.room opens
+      pure_starts = starts s uses [] behind pure before.moment.staged.are.ordered A n (valued_before s A n before.moment.meets) pure waiting noted always numbers before.stands.settled left now (λ x. Ticks) cells shown before.stands.room opens
           (inputs_typed s uses stages.pure stages.pieces stages.waiting before.moment.staged.are A n before.at before.moment.here (value_in now) before.are)
           (inputs_sound s uses stages.pure stages.pieces stages.waiting before.moment.staged.are A n before.at before.moment.here (value_in now) before.are)
           (clear_at_first s uses stages.pure stages.pieces stages.waiting before.moment.staged.are A n before.at before.moment.here (value_in now) before.are)

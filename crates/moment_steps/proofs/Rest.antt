@@ -47,7 +47,7 @@ use Rattle.tree_step.specs.Cells.{cell_in}
 use Rattle.tree_step.specs.Changed.{AreReadsOf, CanStartChanged}
 use Rattle.tree_step.specs.Starts.{uses_of, IsAmong, StandsAs, AreSitesApart, IsStart}
 use Rattle.tree_step.specs.Takes.{TakesUses, HasTaken}
-use Rattle.side_theory.specs.Typed.{valued_at}
+use Rattle.side_theory.specs.Typed.{valued_at, valued_before}
 use Rattle.partition_step.specs.Parts.{IsPartOf, StandsFor}
 use Rattle.partition_step.specs.Steps.{Telling, GoesOnWith, CanStep}
 use Rattle.partition_step.specs.private.Writing.{IsWritten}
@@ -162,7 +162,7 @@ module _ (pure waiting : List Entry) (noted : UnclockedReads) (always : List Clo
           )
 
       rest_starts : IsStart s uses (stages.pure ++ joined stages.pieces) [] A n row (record { equations = s.model.equations; places = numbers; left = left; clocks = always }) waiting shown
-      rest_starts = starts s uses (stages.pure ++ joined stages.pieces) [] waiting ordered A n between.moment.meets pure waiting noted always numbers between.based.settled left gathered (standing s.clocking (row_ticks told) answers) cells shown between.based.room opens_here
+      rest_starts = starts s uses (stages.pure ++ joined stages.pieces) [] waiting ordered A n (valued_before s A n between.moment.meets) pure waiting noted always numbers between.based.settled left gathered (standing s.clocking (row_ticks told) answers) cells shown between.based.room opens_here
           (row_typed s uses stages.pure stages.pieces stages.waiting between.moment.staged.are A n at between.moment.here between.inputs between.are (value_in now) between.taken own_rows rows_alone row rows_beside)
           (row_sound s uses stages.pure stages.pieces stages.waiting between.moment.staged.are A n at between.moment.here between.inputs between.are (value_in now) between.taken own_rows rows_alone row rows_beside)
           (row_clear s uses stages.pure stages.pieces stages.waiting between.moment.staged.are A n at between.moment.here between.inputs between.are (value_in now) between.taken own_rows rows_alone row rows_beside)

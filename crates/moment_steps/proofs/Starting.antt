@@ -28,7 +28,7 @@ use Rattle.flat_model.specs.Uses.{Use, SiteReads}
 use Rattle.flat_model.specs.WholeTyping.{IsTyped}
 use Rattle.flat_model.proofs.Links.{asked_bare, asked_last}
 use Rattle.flat_model.proofs.Sites.{SameSiteOf, still_known}
-use Rattle.side_theory.specs.Typed.{IsTypedRow, valued_before}
+use Rattle.side_theory.specs.Typed.{IsTypedRow, AreValuedBefore}
 use Rattle.moment_theory.specs.Free.{IsOrdered, IsReachedBy, AsksClass, AsksLast, AsksLastIn}
 use Rattle.moment_theory.specs.Sound.{IsSound, IsClear}
 use Rattle.moment_theory.proofs.FromRunnable.{all_at, facts_of}
@@ -126,7 +126,7 @@ module _ (s : Setting) (pure waiting : List Entry) (noted : UnclockedReads) (alw
 abbrev pub LastSeen : Setting → Assignment → ℕ → Row → List ℕ → List Cell → ℕ → Type 0
 LastSeen s S m base numbers cells z = (cell : Cell) × (cell_in numbers cells z ≡ Some cell) × KeepsLast s S m z cell × StandsAs s (with_row S m base) m (class_of_name s z) cell.standing
 
-module _ (s : Setting) (uses before after : List Use) (entries : List Entry) (ordered : IsOrdered s uses (before ++ (uses_of entries ++ after))) (S : Assignment) (m : ℕ) (meets : MeetsBefore s S m)
+module _ (s : Setting) (uses before after : List Use) (entries : List Entry) (ordered : IsOrdered s uses (before ++ (uses_of entries ++ after))) (S : Assignment) (m : ℕ) (valued : AreValuedBefore s S m)
     (pure waiting : List Entry) (noted : UnclockedReads) (always : List ClockNow) (numbers : List ℕ) (settled : IsSettled s pure waiting noted always numbers) (left : Left)
     (now : List (Option Value)) (standings : ℕ → Standing) (old cells : List Cell) (wide : length old ≡ length s.model.names)
     (opens : IsWritten (opened_by numbers left.last now standings) old cells)
@@ -194,7 +194,7 @@ module _ (s : Setting) (uses before after : List Use) (entries : List Entry) (or
     pub starts : IsStart s uses before after S m (value_in now) sight entries cells
     starts = record {
       ordered = ordered;
-      meets = valued_before s S m meets;
+      meets = valued;
       typed = typed;
       sound = sound;
       clear = clear;

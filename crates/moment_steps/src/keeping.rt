@@ -33,7 +33,7 @@ fn keep_now(now: &[Option<Value>], left: &mut [Option<Value>])
 }
 
 /// Keeps the values of a moment, and the last ones up to it. It takes no memory.
-pub(crate) fn keep_left(alloc: Global, now: &[Option<Value>], left: &mut Left)
+pub fn keep_left(alloc: Global, now: &[Option<Value>], left: &mut Left)
     ensures now { IsWritten (spec.now_by now.now) left.old.now left.new.now }
     ensures last { IsWritten (spec.last_by now.now) left.old.last left.new.last }
 {

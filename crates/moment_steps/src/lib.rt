@@ -13,7 +13,11 @@ mod taking;
 mod telling;
 mod ticks;
 
+pub use keeping::keep_left;
+pub use opening::open_ticking;
 pub use piece::{Piece, Scene};
 pub use staged::StagedSteps;
-pub use taking::UnclockedReads;
+pub use stepping::step_parts;
+pub use taking::{UnclockedReads, copy_values};
+pub use telling::{earlier, least_told};
 pub use ticks::TickRow;

@@ -93,7 +93,7 @@ fn opened_ticking(
 }
 
 /// Opens the cells with how the clocks of their names stand.
-pub(crate) fn open_ticking(
+pub fn open_ticking(
     clocking: &Clocking,
     ticks: &[bool],
     answers: &[Option<bool>],

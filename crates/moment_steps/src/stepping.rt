@@ -13,7 +13,7 @@ use outside_io::Gate;
 use std::thread::Threads;
 
 /// Steps the base partitions of which a class ticks, in at most `workers` threads.
-pub(crate) fn step_parts<R: Threads + Sync, G: Gate + Sync>(
+pub fn step_parts<R: Threads + Sync, G: Gate + Sync>(
     rt: &R,
     gate: &G,
     workers: u32,

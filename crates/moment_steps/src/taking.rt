@@ -19,7 +19,7 @@ pub struct UnclockedReads {
 }
 
 /// Copies the values of cells, each in its place.
-fn copy_values(cells: &[Cell], now: &mut [Option<Value>])
+pub fn copy_values(cells: &[Cell], now: &mut [Option<Value>])
     ensures { IsWritten (value_by cells.now) now.old now.new }
 {
     for at in 0..now.len() {

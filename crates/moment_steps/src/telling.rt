@@ -8,7 +8,7 @@ use first_failure::EquationFailing;
 use fork_steps::Slot;
 
 /// Of two failures that may be told, that of the lesser equation.
-pub(crate) fn earlier(
+pub fn earlier(
     one: Option<EquationFailing>,
     other: Option<EquationFailing>,
 ) -> Option<EquationFailing>
@@ -34,7 +34,7 @@ fn told_in(slot: &Slot<Piece>) -> Option<EquationFailing>
 }
 
 /// The failure of the least equation that a stepped piece tells.
-pub(crate) fn least_told(slots: &[Slot<Piece>]) -> Option<EquationFailing>
+pub fn least_told(slots: &[Slot<Piece>]) -> Option<EquationFailing>
     ensures { result ≡ earliest (map told_in slots.now) }
 {
     let mut told = None;

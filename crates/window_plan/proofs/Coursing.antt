@@ -64,7 +64,7 @@ module _ (s : Setting) (uses : List Use) (stages : Stages) (A : Assignment) (n :
       next = omega arith
 
       earlier_by : (S : Assignment) (j : ℕ) → j ≤ count → GoesBy s S n moments j → GoesBy s S n course.moments j
-      earlier_by S j le goes = record { meets = goes.meets; alike = λ i moment lt at. goes.alike i moment lt (others i (λ e. omega (arith, lt, le, e)) ∙ at) }
+      earlier_by S j le goes = record { valued = goes.valued; alike = λ i moment lt at. goes.alike i moment lt (others i (λ e. omega (arith, lt, le, e)) ∙ at) }
 
       known_here : (S : Assignment) → AgreeBefore A S n → GoesBy s S n moments count → IsKnownBefore s S (n + count) course.plan course.low
       known_here S agree goes = known_of s S (n + count) course.plan course.low (has.behind S agree (earlier_by S count (omega arith) goes))
@@ -89,14 +89,14 @@ module _ (s : Setting) (uses : List Use) (stages : Stages) (A : Assignment) (n :
         | inl e ↦
             let goes_here = subst (GoesBy s S n moments) e goes in
             subst (λ k. IsPlannedAt s uses stages S (n + k) moment) (sym e)
-            (subst (IsPlannedAt s uses stages S (n + count)) (is_new moment j e at) (one.planned S goes_here.meets (known_here S agree goes_here)))
+            (subst (IsPlannedAt s uses stages S (n + count)) (is_new moment j e at) (one.planned S goes_here.valued (known_here S agree goes_here)))
         | inr other ↦ has.planned S agree j moment (omega (arith, lt, other)) (sym (others j other) ∙ at) (earlier_by S j (omega (arith, lt)) goes)
       ]
 
       behind : (S : Assignment) → AgreeBefore A S n → GoesBy s S n moments (count + 1) → IsPlanBefore s S (n + (count + 1)) new.plan × WereLow s S (n + (count + 1)) new.low
       behind S agree goes =
-          let before : GoesBy s S n moments count = record { meets = λ k lt. goes.meets k (omega (arith, lt)); alike = λ j moment lt. goes.alike j moment (omega (arith, lt)) } in
-          let knows = one.knows S before.meets (known_here S agree before) (goes.alike count new.moment (omega arith) own) in
+          let before : GoesBy s S n moments count = record { valued = λ k lt. goes.valued k (omega (arith, lt)); alike = λ j moment lt. goes.alike j moment (omega (arith, lt)) } in
+          let knows = one.knows S before.valued (known_here S agree before) (goes.alike count new.moment (omega arith) own) in
           subst (λ m. IsPlanBefore s S m new.plan × WereLow s S m new.low) next (stands s S (suc (n + count)) new.plan new.low one.ready knows)
 
       pub course_more : HasCourse s uses stages A n (record { plan = new.plan; pure = new.pure; low = new.low; moments = moments }) (count + 1)

@@ -11,13 +11,13 @@ use Rattle.flat_model.specs.Answers.{value_in, truth_in, views_of}
 use Rattle.flat_model.specs.Assignment.{Assignment}
 use Rattle.flat_model.specs.Given.{with_row}
 use Rattle.flat_model.specs.Meaning.{value_of}
-use Rattle.flat_model.specs.Meets.{MeetsBefore}
 use Rattle.flat_model.specs.Moments.{moment_at}
 use Rattle.flat_model.specs.Runnable.{IsRunnable}
 use Rattle.flat_model.specs.Setting.{Setting, answer_in, site_answer, is_false, unclocked_views, class_ticks}
 use Rattle.flat_model.specs.Tables.{IsTableOf}
 use Rattle.flat_model.specs.Uses.{Use}
 use Rattle.flat_model.proofs.Agreement.{SameBefore, site_same}
+use Rattle.side_theory.specs.Typed.{AreValuedBefore}
 use Rattle.tick_plan.specs.Plans.{Planned, clock_ticks_in, ticks_in_plan}
 use Rattle.moment_theory.proofs.Rows.{row_before}
 use Rattle.moment_inputs.specs.Filling.{IsTableOfNames, HoldInputs}
@@ -162,7 +162,7 @@ module _ (model : ClockedModel) (at : Moment) (old new : Draft) (found : Found m
       lows = record { wide = lows_wide; first = λ none site. absurd (omega (arith, none)) };
     }
 
-    module _ (S : Assignment) (meets : MeetsBefore s S n) (known : IsKnownAt s S n old.plan old.low) where
+    module _ (S : Assignment) (valued : AreValuedBefore s S n) (known : IsKnownAt s S n old.plan old.low) where
       abbrev over : Assignment
       over = with_row S n (value_in base)
 
@@ -238,7 +238,7 @@ module _ (model : ClockedModel) (at : Moment) (old new : Draft) (found : Found m
 
       planned : IsPlannedAt s uses stages S n new.moment
       planned =
-          let taken = found.takes s uses stages n before S meets in record {
+          let taken = found.takes s uses stages n before S valued in record {
             here = given.here ∙ ap Some (sym found.at_is);
             room = room;
             inputs = value_in found.inputs;

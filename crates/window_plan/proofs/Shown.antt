@@ -14,7 +14,6 @@ use Rattle.flat_model.specs.Answers.{value_in}
 use Rattle.flat_model.specs.Asks.{AsksFor, OfNow, OfLast, OfPrevious}
 use Rattle.flat_model.specs.Assignment.{Assignment}
 use Rattle.flat_model.specs.Given.{with_row, IsKnownToTick}
-use Rattle.flat_model.specs.Meets.{MeetsBefore}
 use Rattle.flat_model.specs.Occurrences.{held_count, converted_count}
 use Rattle.flat_model.specs.Runnable.{IsSideClocked}
 use Rattle.flat_model.specs.Setting.{Setting, flattened, clock_of}
@@ -39,7 +38,7 @@ use Rattle.tree_step.specs.Cells.{cell_in}
 use Rattle.tree_step.specs.Starts.{Sight, use_of, uses_of, IsAmong, HasCell, IsClockTold, IsSideSeen, AreSidesSeen, IsEntry, AreSitesApart, IsStart, CanStart}
 use Rattle.tree_step.specs.Takes as steps
 use Rattle.tree_step.proofs.Plain.{left_asks}
-use Rattle.side_theory.specs.Typed.{valued_before}
+use Rattle.side_theory.specs.Typed.{AreValuedBefore}
 use Rattle.partition_step.specs.private.Writing.{IsWritten}
 use Rattle.partition_step.proofs.Lists.{some_at, written_at, written_back}
 use Rattle.partition_step.proofs.Placing.{own_there, there}
@@ -135,7 +134,7 @@ module _ (w : PureUses) (now : Values) (shown : List Cell) (shows : IsWritten (s
         none-some (Event site factor shift) (sym (ap (clock_of s) (is ∙ (before.staged.are.clockless (use_of e) (is_used e among)).unclocked)) ∙ clock_is)
     apart e class y among (inr (equation, z, found, asks, is)) reads reached = no_last e equation z among found asks
 
-    module _ (S : Assignment) (m : ℕ) (meets : MeetsBefore s S m) where
+    module _ (S : Assignment) (m : ℕ) (valued : AreValuedBefore s S m) where
       told : IsClockTold s S m (value_in now) None clock
       told = record {
         ticks = before.pure.always.ticks;
@@ -192,7 +191,7 @@ module _ (w : PureUses) (now : Values) (shown : List Cell) (shows : IsWritten (s
       starts : IsStart s uses [] behind S m (value_in now) sight w.entries shown
       starts = record {
         ordered = ordered;
-        meets = valued_before s S m meets;
+        meets = valued;
         typed = inputs_typed s uses stages.pure stages.pieces stages.waiting before.staged.are S n before.at before.here (value_in now) before.are;
         sound = sound;
         clear = λ y reached. clear_at_first s uses stages.pure stages.pieces stages.waiting before.staged.are S n before.at before.here (value_in now) before.are y (subst (IsReachedBy y) before.pure.uses_are reached);
@@ -207,9 +206,9 @@ module _ (w : PureUses) (now : Values) (shown : List Cell) (shows : IsWritten (s
     can_start = record { s = s; uses = uses; before = []; after = behind; S = (λ x k. None); m = 0; base = value_in now; start = starts (λ x k. None) 0 (λ k lt. absurd (omega (arith, lt))) }
 
     module _ (taken : List Cell) (told : Option EquationFailing) (takes : steps.TakesUses sight w.entries shown taken told) (after : Values) (copies : IsWritten (value_by taken) now after)
-        (S : Assignment) (meets : MeetsBefore s S n) where
+        (S : Assignment) (valued : AreValuedBefore s S n) where
       has : steps.HasTaken s uses S n (value_in now) sight w.entries shown taken told
-      has = takes s uses [] behind S n (value_in now) (starts S n meets)
+      has = takes s uses [] behind S n (value_in now) (starts S n valued)
 
       taken_pure : AreTaken s S n stages.pure (value_in now) has.own
       taken_pure = subst (λ us. AreTaken s S n us (value_in now) has.own) before.pure.uses_are has.taken
@@ -256,6 +255,6 @@ module _ (w : PureUses) (now : Values) (shown : List Cell) (shows : IsWritten (s
         subst (λ m. CanStart (record { equations = m.equations; places = w.numbers; left = w.left; clocks = w.always }) w.entries shown) (sym before.model) (can_start s uses stages n (own_model s uses stages n before))
 
     pub takes_pure : (taken : List Cell) (told : Option EquationFailing) → steps.TakesUses sight_over w.entries shown taken told → (after : Values) → IsWritten (value_by taken) now after → Takes w flat now after told
-    takes_pure taken told takes after copies s uses stages n before S meets =
+    takes_pure taken told takes after copies s uses stages n before S valued =
         has_taken s uses stages n (own_model s uses stages n before) taken told
-        (subst (λ m. steps.TakesUses (record { equations = m.equations; places = w.numbers; left = w.left; clocks = w.always }) w.entries shown taken told) before.model takes) after copies S meets
+        (subst (λ m. steps.TakesUses (record { equations = m.equations; places = w.numbers; left = w.left; clocks = w.always }) w.entries shown taken told) before.model takes) after copies S valued

@@ -90,6 +90,6 @@ module _ (old taken : Planned) (at : Moment) (low : List Bool) (goes : GoesOn ol
           room = has.room;
           pure = has.pure;
           ready = has.ready;
-          planned = λ S meets knew. has.planned S meets (known s S n knew);
-          knows = λ S meets knew. has.knows S meets (known s S n knew);
+          planned = λ S valued knew. has.planned S valued (known s S n knew);
+          knows = λ S valued knew. has.knows S valued (known s S n knew);
         }

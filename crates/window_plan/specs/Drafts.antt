@@ -2,10 +2,10 @@
 use Rattle.std.specs.Prelude.{◌≡◌, ◌≢◌, ℕ, suc, ◌<◌, ◌^◌, Bool, true, false, List, [], length, drop, Some, slice_get, unwrap_or}
 use Rattle.flat_model.specs.declared.clock.Moment.{Moment}
 use Rattle.flat_model.specs.Assignment.{Assignment}
-use Rattle.flat_model.specs.Meets.{MeetsBefore}
 use Rattle.flat_model.specs.Moments.{moment_at}
 use Rattle.flat_model.specs.Setting.{Setting, site_answer, is_false, risings_before}
 use Rattle.flat_model.specs.Uses.{Use}
+use Rattle.side_theory.specs.Typed.{AreValuedBefore}
 use Rattle.tick_plan.specs.Plans.{Planned, risings_of, is_noted, moments_of, counted}
 use Rattle.moment_body.specs.declared.model.ClockedModel.{ClockedModel}
 use Rattle.moment_body.specs.Stages.{Stages, AreStages, IsModelOf}
@@ -79,8 +79,8 @@ pub record HasPlanned (s : Setting) (uses : List Use) (stages : Stages) (knew : 
   pub room : HasRoom s new.moment
   pub pure : ArePure s stages.pure new.pure
   pub ready : IsPlanReady s (suc n) new.plan new.low
-  pub planned : (S : Assignment) → MeetsBefore s S n → knew S → IsPlannedAt s uses stages S n new.moment
-  pub knows : (S : Assignment) → MeetsBefore s S n → knew S → AnswersAs s S n (base_of new.moment) → IsKnownBefore s S (suc n) new.plan new.low
+  pub planned : (S : Assignment) → AreValuedBefore s S n → knew S → IsPlannedAt s uses stages S n new.moment
+  pub knows : (S : Assignment) → AreValuedBefore s S n → knew S → AnswersAs s S n (base_of new.moment) → IsKnownBefore s S (suc n) new.plan new.low
 
 -- whatever setting it is
 abbrev pub Fills : ClockedModel → Moment → Draft → Draft → Type 0

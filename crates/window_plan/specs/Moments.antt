@@ -3,7 +3,6 @@ use Rattle.std.specs.Prelude.{◌≡◌, ℕ, ◌+◌, ◌<◌, List, length, So
 use Rattle.flat_model.specs.Answers.{value_in, truth_in}
 use Rattle.flat_model.specs.Assignment.{Assignment}
 use Rattle.flat_model.specs.Given.{Row, with_row}
-use Rattle.flat_model.specs.Meets.{MeetsBefore}
 use Rattle.flat_model.specs.Moments.{moment_at}
 use Rattle.flat_model.specs.Setting.{Setting, site_answer, class_ticks}
 use Rattle.flat_model.specs.Uses.{Use}
@@ -12,6 +11,7 @@ use Rattle.first_failure.specs.Turns.{FailsAmong, IsLeast}
 use Rattle.moment_body.specs.Stages.{Stages}
 use Rattle.moment_moves.specs.Moments.{IsFirstSite}
 use Rattle.moment_steps.specs.Ticked.{row_ticks}
+use Rattle.side_theory.specs.Typed.{AreValuedBefore}
 use Rattle.site_risings.specs.Risings.{answer_of}
 use Rattle.window_plan.specs.declared.moment.PlannedMoment.{PlannedMoment}
 
@@ -41,9 +41,9 @@ pub record IsPlannedAt (s : Setting) (uses : List Use) (stages : Stages) (S : As
 abbrev pub AnswersAs : Setting → Assignment → ℕ → Row → Type 0
 AnswersAs s S m base = (site : ℕ) → site_answer s (with_row S m base) site m ≡ site_answer s S site m
 
--- S goes on from n by the first moments of a list: it meets the model before what comes behind them, and its sites answer at each as they are planned
+-- S goes on from n by the first moments of a list: its names have values before what comes behind them, and its sites answer at each as they are planned
 pub record GoesBy (s : Setting) (S : Assignment) (n : ℕ) (moments : List PlannedMoment) (count : ℕ) : Type 0 where
-  pub meets : MeetsBefore s S (n + count)
+  pub valued : AreValuedBefore s S (n + count)
   pub alike : (j : ℕ) (moment : PlannedMoment) → j < count → slice_get moments j ≡ Some moment → AnswersAs s S (n + j) (base_of moment)
 
 -- nothing failed so far

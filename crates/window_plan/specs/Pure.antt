@@ -5,13 +5,13 @@ use Rattle.flat_model.specs.declared.clock.Moment.{Moment}
 use Rattle.flat_model.specs.declared.model.FlatModel.{FlatModel}
 use Rattle.flat_model.specs.Answers.{value_in}
 use Rattle.flat_model.specs.Assignment.{Assignment}
-use Rattle.flat_model.specs.Meets.{MeetsBefore}
 use Rattle.flat_model.specs.Moments.{moment_at}
 use Rattle.flat_model.specs.Setting.{Setting}
 use Rattle.flat_model.specs.Uses.{Use}
 use Rattle.moment_theory.specs.Taken.{AreInputs, AreTaken}
 use Rattle.first_failure.specs.declared.least.EquationFailing.{EquationFailing}
 use Rattle.first_failure.specs.Turns.{FailsAmong, IsLeast}
+use Rattle.side_theory.specs.Typed.{AreValuedBefore}
 use Rattle.tree_step.specs.declared.taking.Entry.{Entry}
 use Rattle.tree_step.specs.Starts.{uses_of, IsAmong}
 use Rattle.moment_body.specs.Stages.{Stages, AreStages}
@@ -52,11 +52,11 @@ pub record IsBefore (s : Setting) (uses : List Use) (stages : Stages) (n : ℕ) 
 abbrev pub CanTake : PureUses → FlatModel → Values → Type 0
 CanTake w flat inputs = (s : Setting) × (uses : List Use) × (stages : Stages) × (n : ℕ) × IsBefore s uses stages n w flat inputs
 
--- the pure uses were taken, and the least of their equations that fails is told, whatever meets the model before the moment
+-- the pure uses were taken, and the least of their equations that fails is told, whatever has values before the moment
 pub record HasTaken (s : Setting) (uses : List Use) (stages : Stages) (S : Assignment) (n : ℕ) (inputs base : Values) (told : Option EquationFailing) : Type 0 where
   pub taken : AreTaken s S n stages.pure (value_in inputs) (value_in base)
   pub told_is : IsLeast (FailsAmong s uses S n stages.pure (value_in base)) told
 
 abbrev pub Takes : PureUses → FlatModel → Values → Values → Option EquationFailing → Type 0
 Takes w flat inputs base told = (s : Setting) (uses : List Use) (stages : Stages) (n : ℕ) → IsBefore s uses stages n w flat inputs
-    → (S : Assignment) → MeetsBefore s S n → HasTaken s uses stages S n inputs base told
+    → (S : Assignment) → AreValuedBefore s S n → HasTaken s uses stages S n inputs base told
