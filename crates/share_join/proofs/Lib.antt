@@ -1,0 +1,6 @@
+pub mod Apart
+pub mod Pairs
+pub mod Places
+pub mod Rows
+pub mod Telling
+pub mod Waiting
