@@ -40,7 +40,7 @@ module _ (s : Setting) (uses pure : List Use) (shares : List Share) (is : AreSha
   pub waiting_free : AreFree s (all_waiting shares)
   waiting_free = free_back s (joined (all_pieces shares)) (all_waiting shares) later_free
 
-  pieces_free : AreFree s (joined (map piece_uses shares))
+  pub pieces_free : AreFree s (joined (map piece_uses shares))
   pieces_free = subst (AreFree s) (joined_pieces shares) (free_front s (joined (all_pieces shares)) (all_waiting shares) later_free)
 
   -- ---- what a share reaches
@@ -54,7 +54,7 @@ module _ (s : Setting) (uses pure : List Use) (shares : List Share) (is : AreSha
   pub waiting_reach : (i : ℕ) (share : Share) → slice_get shares i ≡ Some share → (y : ℕ) → IsReachedBy y share.waiting → IsReachedBy y (all_waiting shares)
   waiting_reach i share found y reached = in_all waiting_of shares i share found y reached
 
-  own_reach : (i : ℕ) (share : Share) → slice_get shares i ≡ Some share → (y : ℕ) → IsReachedBy y (own_uses share) → IsReachedBy y later
+  pub own_reach : (i : ℕ) (share : Share) → slice_get shares i ≡ Some share → (y : ℕ) → IsReachedBy y (own_uses share) → IsReachedBy y later
   own_reach i share found y reached = elim (reached_either (piece_uses share) share.waiting y reached) [
     | inl own ↦ reached_first (joined (all_pieces shares)) (all_waiting shares) y (pieces_reach i share found y own)
     | inr waits ↦ reached_second (joined (all_pieces shares)) (all_waiting shares) y (waiting_reach i share found y waits)

@@ -1,4 +1,6 @@
 pub mod Apart
+pub mod Leading
+pub mod Members
 pub mod Pairs
 pub mod Places
 pub mod Rows

@@ -28,6 +28,7 @@ use Rattle.moment_join.proofs.Least.{same_least, earlier_least}
 use Rattle.share_join.specs.Shares.{Share, own_uses, all_pieces, all_waiting}
 use Rattle.share_join.specs.Taking.{AreRunBeside, AreStages}
 use Rattle.share_join.proofs.Apart.{waiting_of, order, waiting_free, site_early, needs_apart}
+use Rattle.share_join.proofs.Members.{member_either}
 use Rattle.share_join.proofs.Pairs.{Pairs, pairs_of, pair_at, pair_back, pairs_append}
 use Rattle.share_join.proofs.Places.{at_map, of_one, piece_uses, free_joined, joined_append, piece_in_all}
 use Rattle.share_join.proofs.Rows.{stays, in_uses, took, has, own_last, mid_rest, mid_sound, owned, owned_is, owns, owns_at, row_sound}
@@ -38,14 +39,6 @@ use Rattle.share_join.proofs.Waiting.{gathered, gathered_clear, clear_waiting, w
 -- the uses of one list are of another
 abbrev Within : List Use → List Use → Type 0
 Within xs ys = (entry : Use) → IsMember entry xs → IsMember entry ys
-
-member_either : (xs ys : List Use) (entry : Use) → IsMember entry (xs ++ ys) → IsMember entry xs ⊎ IsMember entry ys
-member_either [] ys entry h = inr h
-member_either (x ∷ xs) ys entry (inl at) = inl (inl at)
-member_either (x ∷ xs) ys entry (inr h) = elim (member_either xs ys entry h) [
-  | inl own ↦ inl (inr own)
-  | inr other ↦ inr other
-]
 
 crossed : (a b c d : List Use) → Within ((a ++ b) ++ (c ++ d)) ((a ++ c) ++ (b ++ d))
 crossed a b c d entry member = elim (member_either (a ++ b) (c ++ d) entry member) [

@@ -1,5 +1,5 @@
 -- Laws of shares that were run side by side.
-use Rattle.std.specs.Prelude.{◌≡◌, ℕ, List, ◌∷◌, Option, Some}
+use Rattle.std.specs.Prelude.{◌≡◌, ℕ, List, ◌∷◌, ◌++◌, Option, Some, slice_get}
 use Rattle.flat_model.specs.declared.clock.Moment.{Moment}
 use Rattle.flat_model.specs.Assignment.{Assignment}
 use Rattle.flat_model.specs.Given.{Row, with_row}
@@ -7,12 +7,18 @@ use Rattle.flat_model.specs.Moments.{moment_at}
 use Rattle.flat_model.specs.Setting.{Setting}
 use Rattle.flat_model.specs.Uses.{Use}
 use Rattle.first_failure.specs.declared.least.EquationFailing.{EquationFailing}
+use Rattle.moment_join.specs.Staged.{AreStagesOf}
 use Rattle.moment_join.specs.Told.{earliest}
 use Rattle.run_ahead.specs.Ahead.{IsAloneBefore}
 use Rattle.site_risings.specs.declared.answers.SiteFailing.{SiteFailing}
 use Rattle.moment_moves.specs.Moments.{IsFirstSite, IsRunMoment}
-use Rattle.share_join.specs.Shares.{Share, all_pieces, all_waiting, AreSharesOf}
+use Rattle.share_join.specs.Shares.{Share, all_pieces, all_waiting, AreSharesOf, others_of, all_uses}
 use Rattle.share_join.specs.Taking.{JoinsShares, AreRunBeside, AreStages}
+
+-- a share may be taken before all others: behind the pure uses its pieces, then its waiting uses and all uses of the others, are stages too
+abbrev pub FirstLaw : Type 0
+FirstLaw = (s : Setting) (uses pure : List Use) (shares : List Share) → AreSharesOf s uses pure shares → (i : ℕ) (share : Share) → slice_get shares i ≡ Some share
+    → AreStagesOf s uses pure share.pieces (share.waiting ++ all_uses (others_of i shares))
 
 -- there is a row that joins those of the shares
 abbrev pub RowLaw : Type 0

@@ -1,5 +1,5 @@
 -- The uses of a setting as shares that can be run side by side. This project's own.
-use Rattle.std.specs.Prelude.{◌≡◌, ◌≢◌, ℕ, List, [], ◌∷◌, ◌++◌, map, Some, slice_get, Contains}
+use Rattle.std.specs.Prelude.{◌≡◌, ◌≢◌, ℕ, zero, suc, List, [], ◌∷◌, ◌++◌, map, Some, slice_get, Contains}
 use Rattle.flat_model.specs.Setting.{Setting}
 use Rattle.flat_model.specs.Uses.{Use, Reads}
 use Rattle.moment_theory.specs.Division.{joined}
@@ -34,3 +34,13 @@ pub record AreSharesOf (s : Setting) (uses pure : List Use) (shares : List Share
   pub staged : AreStagesOf s uses pure (all_pieces shares) (all_waiting shares)
   pub reach : ReachSites s pure
   pub apart : (i j : ℕ) (share other : Share) → i ≢ j → slice_get shares i ≡ Some share → slice_get shares j ≡ Some other → ReadNothingOf s share.waiting (own_uses other)
+
+-- all shares but the one of this number
+abbrev pub others_of : ℕ → List Share → List Share
+others_of i [] = []
+others_of zero (share ∷ shares) = shares
+others_of (suc i) (share ∷ shares) = share ∷ others_of i shares
+
+-- all uses of several shares, share by share
+abbrev pub all_uses : List Share → List Use
+all_uses shares = joined (map own_uses shares)

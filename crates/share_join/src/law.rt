@@ -1,4 +1,9 @@
-ghost use Rattle.share_join.specs.Laws.{JoinLaw, MomentLaw, RowLaw};
+ghost use Rattle.share_join.specs.Laws.{FirstLaw, JoinLaw, MomentLaw, RowLaw};
+
+/// Each share may be taken before all others.
+pub fn first_law()
+    ensures { FirstLaw }
+{}
 
 /// Shares have a row that joins theirs, for no name is reached by two.
 pub fn row_law()
