@@ -72,7 +72,7 @@ front_clear s (x ∷ xs) ys free entry y (inl is) touches reached = own (subst (
 -- ---- the others of a share
 
 -- one of the others is another share
-other_at : (shares : List Share) (i k : ℕ) (other : Share) → slice_get (others_of i shares) k ≡ Some other → (j : ℕ) × (i ≢ j) × (slice_get shares j ≡ Some other)
+pub other_at : (shares : List Share) (i k : ℕ) (other : Share) → slice_get (others_of i shares) k ≡ Some other → (j : ℕ) × (i ≢ j) × (slice_get shares j ≡ Some other)
 other_at [] i k other found = absurd (none-some other found)
 other_at (share ∷ shares) zero k other found = (suc k, (λ e. omega (arith, e)), found)
 other_at (share ∷ shares) (suc i) zero other found = (0, (λ e. omega (arith, e)), found)

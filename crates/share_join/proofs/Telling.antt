@@ -3,9 +3,11 @@ use Rattle.std.proofs.Common.{◌≡◌, ap, ◌∙◌, sym, subst, ℕ, List, [
 use Rattle.std.proofs.lemmas.Bool.{cases_eq}
 use Rattle.std.proofs.lemmas.Option.{same_Some}
 use Rattle.sync_values.specs.declared.value.Fail.{Fail}
+use Rattle.flat_model.specs.declared.clock.Moment.{Moment}
 use Rattle.flat_model.specs.Assignment.{Assignment}
 use Rattle.flat_model.specs.Faults.{EquationFails}
 use Rattle.flat_model.specs.Given.{Row, with_row}
+use Rattle.flat_model.specs.Moments.{moment_at}
 use Rattle.flat_model.specs.Setting.{Setting}
 use Rattle.flat_model.specs.Uses.{Use}
 use Rattle.moment_theory.specs.Division.{joined}
@@ -25,6 +27,9 @@ use Rattle.moment_join.specs.Told.{earlier, earliest}
 use Rattle.moment_join.proofs.Fronts.{reached_or}
 use Rattle.moment_join.proofs.Joined.{pure_alike, piece_alike}
 use Rattle.moment_join.proofs.Least.{same_least, earlier_least}
+use Rattle.moment_moves.specs.Moments.{IsFirstSite, IsRunMoment}
+use Rattle.run_ahead.specs.Ahead.{IsAloneBefore}
+use Rattle.site_risings.specs.declared.answers.SiteFailing.{SiteFailing}
 use Rattle.share_join.specs.Shares.{Share, own_uses, all_pieces, all_waiting}
 use Rattle.share_join.specs.Taking.{AreRunBeside, AreStages}
 use Rattle.share_join.proofs.Apart.{waiting_of, order, waiting_free, site_early, needs_apart}
@@ -276,4 +281,23 @@ module _ (s : Setting) (uses pure : List Use) (shares : List Share) (U : Assignm
     staged = staged s uses pure shares U m inputs base lasts last first tolds run;
     tells = tells_all;
     told_same = told_same;
+  }
+
+  pub run_moment : IsAloneBefore s U m → (at : Moment) → moment_at s.instants m ≡ Some at → (site : Option SiteFailing) → IsFirstSite s (with_row U m base) m site
+      → IsRunMoment s uses pure pieces waiting U m at base last site (earliest (first ∷ tolds))
+  run_moment alone at here site site_told = record {
+    stages = run.shares_are.staged;
+    reach = run.shares_are.reach;
+    alone = alone;
+    here = here;
+    inputs = inputs;
+    owns = stages.owns;
+    row = stages.row;
+    staged = stages.staged;
+    first = first;
+    each = stages.each;
+    behind = stages.behind;
+    tells = stages.tells;
+    told_is = stages.told_same;
+    site_told = site_told;
   }
