@@ -5,9 +5,9 @@ use Rattle.std.proofs.lemmas.Option.{none-some, same_Some}
 use Rattle.flat_model.specs.Setting.{Setting}
 use Rattle.flat_model.specs.Uses.{Use}
 use Rattle.moment_theory.specs.Division.{joined}
-use Rattle.moment_theory.specs.Free.{IsReachedBy, IsFree, AreFree, IsOrdered}
-use Rattle.moment_theory.specs.Pieces.{Needs, AreApart}
-use Rattle.moment_theory.proofs.Beside.{reached_either, reached_first, reached_second, regroup}
+use Rattle.moment_theory.specs.Free.{IsReachedBy, AreFree, IsOrdered}
+use Rattle.moment_theory.specs.Pieces.{AreApart}
+use Rattle.moment_theory.proofs.Beside.{reached_either, reached_first, regroup}
 use Rattle.moment_theory.proofs.Members.{IsMember, contains_member, member_contains}
 use Rattle.moment_theory.proofs.Pieces.{free_front}
 use Rattle.first_failure.proofs.Turning.{member_front, member_back}
@@ -16,58 +16,9 @@ use Rattle.moment_join.proofs.Fronts.{reached_piece}
 use Rattle.moment_join.proofs.Joined.{piece_within}
 use Rattle.share_join.specs.Shares.{Share, own_uses, all_pieces, all_waiting, AreSharesOf, others_of, all_uses}
 use Rattle.share_join.proofs.Apart.{waiting_of, later, later_free, waiting_free, pieces_free, waiting_reach, own_reach, own_once, needs_apart}
+use Rattle.share_join.proofs.Frees.{Clear, free_append, front_clear}
 use Rattle.share_join.proofs.Members.{member_either, member_joined, piece_member}
 use Rattle.share_join.proofs.Places.{at_map, of_one, piece_uses, joined_pieces, reached_joined, free_joined, reached_once, piece_in_all}
-
--- ---- free orders put together
-
--- what a use needs or reaches
-abbrev Touches : Setting → Use → ℕ → Type 0
-Touches s entry y = (y ≡ entry.name) ⊎ Needs s entry y
-
--- nothing of some uses touches what others reach
-abbrev Clear : Setting → List Use → List Use → Type 0
-Clear s xs ys = (entry : Use) (y : ℕ) → IsMember entry xs → Touches s entry y → IsReachedBy y ys → ⊥
-
-free_more : (s : Setting) (entry : Use) (xs ys : List Use) → IsFree s entry xs → ((y : ℕ) → Touches s entry y → IsReachedBy y ys → ⊥) → IsFree s entry (xs ++ ys)
-free_more s entry xs ys free clear = record {
-  reads = λ y reads reached. elim (reached_either xs ys y reached) [
-    | inl own ↦ free.reads y reads own
-    | inr other ↦ elim (cases_eq y entry.name) [
-      | inl same ↦ clear y (inl same) other
-      | inr apart ↦ clear y (inr (inl (apart, reads))) other
-    ]
-  ];
-  sites = λ class y asks reads reached. elim reached [
-    | inl same ↦ free.sites class y asks reads (inl same)
-    | inr behind ↦ elim (reached_either xs ys y behind) [
-      | inl own ↦ free.sites class y asks reads (inr own)
-      | inr other ↦ clear y (inr (inr (class, asks, reads))) other
-    ]
-  ];
-  once = λ reached. elim (reached_either xs ys entry.name reached) [
-    | inl own ↦ free.once own
-    | inr other ↦ clear entry.name (inl refl) other
-  ];
-}
-
-free_append : (s : Setting) (xs ys : List Use) → AreFree s xs → AreFree s ys → Clear s xs ys → AreFree s (xs ++ ys)
-free_append s [] ys one two clear = two
-free_append s (x ∷ xs) ys (free, one) two clear = (
-  free_more s x xs ys free (λ y touches reached. clear x y (inl refl) touches reached),
-  free_append s xs ys one two (λ entry y member touches reached. clear entry y (inr member) touches reached),
-)
-
--- what a front touches, what is behind it does not reach
-front_clear : (s : Setting) (xs ys : List Use) → AreFree s (xs ++ ys) → Clear s xs ys
-front_clear s [] ys free entry y member touches reached = absurd member
-front_clear s (x ∷ xs) ys free entry y (inr member) touches reached = front_clear s xs ys free.1 entry y member touches reached
-front_clear s (x ∷ xs) ys free entry y (inl is) touches reached = own (subst (λ e. Touches s e y) (sym is) touches)
-  where
-    own : Touches s x y → ⊥
-    own (inl same) = free.0.once (subst (λ z. IsReachedBy z (xs ++ ys)) same (reached_second xs ys y reached))
-    own (inr (inl (apart, reads))) = free.0.reads y reads (reached_second xs ys y reached)
-    own (inr (inr (class, asks, reads))) = free.0.sites class y asks reads (inr (reached_second xs ys y reached))
 
 -- ---- the others of a share
 

@@ -1,4 +1,7 @@
 pub mod Apart
+pub mod Dealing
+pub mod Dealt
+pub mod Frees
 pub mod Leading
 pub mod Members
 pub mod Pairs

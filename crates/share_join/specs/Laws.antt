@@ -12,8 +12,15 @@ use Rattle.moment_join.specs.Told.{earliest}
 use Rattle.run_ahead.specs.Ahead.{IsAloneBefore}
 use Rattle.site_risings.specs.declared.answers.SiteFailing.{SiteFailing}
 use Rattle.moment_moves.specs.Moments.{IsFirstSite, IsRunMoment}
+use Rattle.moment_join.specs.Sites.{ReachSites}
+use Rattle.share_join.specs.Dealing.{Deal, dealt_shares, IsDealOf, ReadApart}
 use Rattle.share_join.specs.Shares.{Share, all_pieces, all_waiting, AreSharesOf, others_of, all_uses}
 use Rattle.share_join.specs.Taking.{JoinsShares, AreRunBeside, AreStages}
+
+-- the stages of a moment, however dealt, are shares, where what waits in one share reads nothing of another
+abbrev pub DealLaw : Type 0
+DealLaw = (s : Setting) (uses pure : List Use) (pieces : List (List Use)) (waiting : List Use) → AreStagesOf s uses pure pieces waiting → ReachSites s pure → (deal : Deal) → IsDealOf deal pieces waiting
+    → ReadApart s (dealt_shares deal pieces waiting) → AreSharesOf s uses pure (dealt_shares deal pieces waiting)
 
 -- a share may be taken before all others: behind the pure uses its pieces, then its waiting uses and all uses of the others, are stages too
 abbrev pub FirstLaw : Type 0

@@ -1,4 +1,9 @@
-ghost use Rattle.share_join.specs.Laws.{FirstLaw, JoinLaw, MomentLaw, RowLaw};
+ghost use Rattle.share_join.specs.Laws.{DealLaw, FirstLaw, JoinLaw, MomentLaw, RowLaw};
+
+/// The stages of a moment may be dealt to shares.
+pub fn deal_law()
+    ensures { DealLaw }
+{}
 
 /// Each share may be taken before all others.
 pub fn first_law()

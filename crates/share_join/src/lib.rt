@@ -6,4 +6,4 @@
 
 mod law;
 
-pub use law::{first_law, join_law, moment_law, row_law};
+pub use law::{deal_law, first_law, join_law, moment_law, row_law};
