@@ -66,7 +66,7 @@ pub joined_pieces : (shares : List Share) → joined (all_pieces shares) ≡ joi
 joined_pieces [] = refl
 joined_pieces (share ∷ shares) = joined_append share.pieces (all_pieces shares) ∙ ap (λ us. joined share.pieces ++ us) (joined_pieces shares)
 
-at_front : {A : Type 0} (xs ys : List A) (i : ℕ) (x : A) → slice_get xs i ≡ Some x → slice_get (xs ++ ys) i ≡ Some x
+pub at_front : {A : Type 0} (xs ys : List A) (i : ℕ) (x : A) → slice_get xs i ≡ Some x → slice_get (xs ++ ys) i ≡ Some x
 at_front [] ys i x found = absurd (none-some x found)
 at_front (a ∷ xs) ys zero x found = found
 at_front (a ∷ xs) ys (suc i) x found = at_front xs ys i x found

@@ -9,13 +9,17 @@ use Rattle.flat_model.proofs.Links.{asked_bare, asked_last}
 use Rattle.moment_theory.specs.Division.{joined}
 use Rattle.moment_theory.proofs.Members.{contains_member, member_contains}
 use Rattle.first_failure.proofs.Turning.{member_front, member_back}
+use Rattle.moment_join.specs.Sites.{ReachSites}
+use Rattle.moment_join.specs.Staged.{AreStagesOf}
 use Rattle.moment_join.proofs.Joined.{piece_within}
 use Rattle.part_groups.specs.Units.{Names, EquationNames}
+use Rattle.share_join.specs.Dealing.{Deal, dealt_shares, IsDealOf, ReadApart}
 use Rattle.share_join.specs.Shares.{Share, own_uses, AreSharesOf, ReadNothingOf, others_of}
+use Rattle.share_join.proofs.Dealing.{deals}
 use Rattle.share_join.proofs.Leading.{leads, other_at}
 use Rattle.share_join.proofs.Places.{of_one}
 use Rattle.share_run.specs.Shares.{AskNothingOf, IsShareOf}
-use Rattle.share_moments.specs.Sharing.{AreShares, uses_beside, division_at}
+use Rattle.share_moments.specs.Sharing.{AskApart, AreShares, uses_beside, division_at}
 
 -- ---- what is read is named
 
@@ -32,14 +36,25 @@ reads_names s i (Clocks left right clause) y reads = absurd reads
 pub read_nothing : (s : Setting) (own others : List Use) → AskNothingOf s own others → ReadNothingOf s own others
 read_nothing s own others asks entry y used (equation, found, reads) reached = asks entry equation y used found (reads_names s entry.equation equation y reads) reached
 
+read_apart : (s : Setting) (shares : List Share) → AskApart s shares → ReadApart s shares
+read_apart s shares asks i j share other apart found there = read_nothing s share.waiting (own_uses other)
+    (λ entry equation y used. asks i j share other apart found there entry equation y
+    (member_contains entry (own_uses share) (member_back (joined share.pieces) share.waiting entry (contains_member entry share.waiting used))))
+
+pub dealt_apart : (s : Setting) (uses pure : List Use) (pieces : List (List Use)) (waiting : List Use) → AreStagesOf s uses pure pieces waiting → ReachSites s pure → (deal : Deal) → IsDealOf deal pieces waiting
+    → AskApart s (dealt_shares deal pieces waiting) → AreShares s uses pure (dealt_shares deal pieces waiting)
+dealt_apart s uses pure pieces waiting is reach deal of asks = record {
+  staged = (deals s uses pure pieces waiting is reach deal of (read_apart s (dealt_shares deal pieces waiting) asks)).staged;
+  reach = reach;
+  asks = asks;
+}
+
 module _ (s : Setting) (uses pure : List Use) (shares : List Share) (are : AreShares s uses pure shares) where
   pub beside : AreSharesOf s uses pure shares
   beside = record {
     staged = are.staged;
     reach = are.reach;
-    apart = λ i j share other apart found there. read_nothing s share.waiting (own_uses other)
-        (λ entry equation y used. are.asks i j share other apart found there entry equation y
-        (member_contains entry (own_uses share) (member_back (joined share.pieces) share.waiting entry (contains_member entry share.waiting used))));
+    apart = read_apart s shares are.asks;
   }
 
   module _ (i : ℕ) (share : Share) (found : slice_get shares i ≡ Some share) where

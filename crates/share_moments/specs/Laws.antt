@@ -10,18 +10,36 @@ use Rattle.flat_model.specs.Moments.{moment_at}
 use Rattle.flat_model.specs.Setting.{Setting}
 use Rattle.flat_model.specs.Uses.{Use}
 use Rattle.fork_steps.specs.declared.slot.Slot.{Slot}
+use Rattle.moment_join.specs.Sites.{ReachSites}
+use Rattle.moment_join.specs.Staged.{AreStagesOf}
 use Rattle.moment_join.specs.Told.{earliest}
 use Rattle.moment_moves.specs.Moments.{IsFirstSite, IsRunMoment}
+use Rattle.moment_order.specs.declared.stage.Stage.{Stage}
+use Rattle.moment_order.specs.declared.stage.Stage.TheVariants.{Waiting}
+use Rattle.moment_order.specs.Stages.{uses_at, parts_at}
 use Rattle.moment_steps.specs.declared.piece.Piece.{Piece}
 use Rattle.moment_theory.specs.Taken.{AreInputs, AreTaken}
+use Rattle.part_groups.specs.Groups.{AreGroups}
 use Rattle.run_ahead.specs.Ahead.{IsAloneBefore}
+use Rattle.share_join.specs.Dealing.{Deal, dealt_shares, IsDealOf}
 use Rattle.share_join.specs.Shares.{Share, all_pieces, all_waiting, AreSharesOf}
 use Rattle.share_join.specs.Taking.{HasTaken, JoinsShares}
 use Rattle.share_run.specs.Shares.{IsShareOf}
 use Rattle.share_run.specs.Standing.{Holding}
 use Rattle.share_run.specs.Taking.{Values, Plan, HasTakenShare}
 use Rattle.site_risings.specs.declared.answers.SiteFailing.{SiteFailing}
-use Rattle.share_moments.specs.Sharing.{share_of, AreShares, division_at, TookEach}
+use Rattle.share_moments.specs.Grouping.{KeepsGroups}
+use Rattle.share_moments.specs.Sharing.{share_of, AskApart, AreShares, division_at, TookEach}
+
+-- the stages of a moment, however dealt, are shares, where none names what another reaches
+abbrev pub DealLaw : Type 0
+DealLaw = (s : Setting) (uses pure : List Use) (pieces : List (List Use)) (waiting : List Use) → AreStagesOf s uses pure pieces waiting → ReachSites s pure → (deal : Deal) → IsDealOf deal pieces waiting
+    → AskApart s (dealt_shares deal pieces waiting) → AreShares s uses pure (dealt_shares deal pieces waiting)
+
+-- so it is where whole groups are dealt
+abbrev pub GroupsLaw : Type 0
+GroupsLaw = (s : Setting) (uses : List Use) (count : ℕ) (stages : List Stage) (groups : List ℕ) → AreGroups s.model.equations count stages uses groups
+    → (deal : Deal) → IsDealOf deal (parts_at stages uses 0 count) (uses_at Waiting stages uses) → KeepsGroups groups deal → AskApart s (dealt_shares deal (parts_at stages uses 0 count) (uses_at Waiting stages uses))
 
 -- such shares may run side by side, and each by itself beside all others
 abbrev pub NamesLaw : Type 0

@@ -18,11 +18,15 @@ use Rattle.tree_step.specs.Starts.{uses_of}
 abbrev pub share_of : Holding → Share
 share_of h = record { pieces = pieces_of h; waiting = uses_of h.waiting }
 
--- behind the pure uses, all pieces and then all waiting uses are the stages of a moment, and no share names, at a moment or before it, what another reaches
+-- no share names, at a moment or before it, what another reaches
+abbrev pub AskApart : Setting → List Share → Type 0
+AskApart s shares = (i j : ℕ) (share other : Share) → i ≢ j → slice_get shares i ≡ Some share → slice_get shares j ≡ Some other → AskNothingOf s (own_uses share) (own_uses other)
+
+-- behind the pure uses, all pieces and then all waiting uses are the stages of a moment, and no share names what another reaches
 pub record AreShares (s : Setting) (uses pure : List Use) (shares : List Share) : Type 0 where
   pub staged : AreStagesOf s uses pure (all_pieces shares) (all_waiting shares)
   pub reach : ReachSites s pure
-  pub asks : (i j : ℕ) (share other : Share) → i ≢ j → slice_get shares i ≡ Some share → slice_get shares j ≡ Some other → AskNothingOf s (own_uses share) (own_uses other)
+  pub asks : AskApart s shares
 
 -- all uses but the pure ones and those of the share of this number
 abbrev pub uses_beside : ℕ → List Share → List Use

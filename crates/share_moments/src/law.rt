@@ -1,4 +1,14 @@
-ghost use Rattle.share_moments.specs.Laws.{NamesLaw, RunLaw, TakenLaw};
+ghost use Rattle.share_moments.specs.Laws.{DealLaw, GroupsLaw, NamesLaw, RunLaw, TakenLaw};
+
+/// The stages of a moment may be dealt to shares that do not name what another reaches.
+pub fn deal_law()
+    ensures { DealLaw }
+{}
+
+/// Shares of whole groups do not name what another reaches.
+pub fn groups_law()
+    ensures { GroupsLaw }
+{}
 
 /// Shares of which none names what another reaches may run side by side, and each by itself.
 pub fn names_law()

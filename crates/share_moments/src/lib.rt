@@ -6,4 +6,4 @@
 
 mod law;
 
-pub use law::{names_law, run_law, taken_law};
+pub use law::{deal_law, groups_law, names_law, run_law, taken_law};
