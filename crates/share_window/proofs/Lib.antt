@@ -1,0 +1,4 @@
+pub mod Carried
+pub mod Moved
+pub mod Shown
+pub mod Windowed
