@@ -1,0 +1,11 @@
+pub mod Apart
+pub mod Dealing
+pub mod Dealt
+pub mod Frees
+pub mod Leading
+pub mod Members
+pub mod Pairs
+pub mod Places
+pub mod Rows
+pub mod Telling
+pub mod Waiting

@@ -1,0 +1,4 @@
+pub mod Dealing
+pub mod Laws
+pub mod Shares
+pub mod Taking
