@@ -1,0 +1,4 @@
+pub mod Across
+pub mod Joined
+pub mod Moment
+pub mod Plans
