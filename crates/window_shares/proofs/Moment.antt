@@ -1,8 +1,7 @@
 -- One moment of a window that shares ran side by side.
 use Rattle.std.proofs.Common.{◌≡◌, refl, ap, ap₂, ◌∙◌, sym, subst, ℕ, zero, suc, ◌+◌, ◌<◌, ◌≤◌, List, [], ◌∷◌, map, Option, Some, None, slice_get, if◌then◌else◌, eq-eqb, ne_eqb, ◌⊎◌, inl, inr, arith}
 use Rattle.std.proofs.lemmas.Bool.{cases_eq}
-use Rattle.std.proofs.lemmas.Option.{none-some, same_Some}
-use Rattle.clock_terms.proofs.Marking.{get_below}
+use Rattle.std.proofs.lemmas.Option.{none-some, same_Some, slice_get_within}
 use Rattle.first_failure.specs.declared.least.EquationFailing.{EquationFailing}
 use Rattle.flat_model.specs.Answers.{value_in}
 use Rattle.flat_model.specs.Assignment.{Assignment}
@@ -107,7 +106,7 @@ module _ (s : Setting) (uses : List Use) (stages : Stages) (moments : List Plann
 
       -- it stopped at this moment
       stopped : j ≡ ran.done → (o : Option EquationFailing) → ran.told ≡ o → WasTaken ran.old moment (run.lasts j) ran.told s uses (others i) U m
-      stopped at None none = absurd (let all = run.whole none in let lt = get_below moments j moment here in omega (arith, at, all, lt))
+      stopped at None none = absurd (let all = run.whole none in let lt = slice_get_within moments j moment here in omega (arith, at, all, lt))
       stopped at (Some failing) fails =
           subst (λ k. WasTaken ran.old moment (run.lasts k) ran.told s uses (others i) U (n + k)) (sym at)
           (run.fails failing fails U joint.agrees moment (subst (λ k. slice_get moments k ≡ Some moment) at here)
