@@ -1,13 +1,20 @@
 -- The first moments of a course, as a window.
 use Rattle.std.proofs.Common.{◌≡◌, ◌∙◌, sym, ap, ℕ, zero, suc, ◌+◌, ◌<◌, ◌≤◌, List, [], ◌∷◌, length, take, Some, slice_get, inl, inr, arith}
-use Rattle.std.proofs.lemmas.List.{length-drop, length-map}
+use Rattle.std.proofs.lemmas.List.{length-drop, length-map, length-take-le}
 use Rattle.std.proofs.lemmas.Option.{none-some}
 use Rattle.flat_model.specs.declared.clock.Moment.TheVariants.{At}
 use Rattle.flat_model.specs.Assignment.{Assignment}
 use Rattle.flat_model.specs.Setting.{Setting}
 use Rattle.flat_model.specs.Uses.{Use}
-use Rattle.moment_body.specs.Stages.{Stages}
-use Rattle.share_window.specs.Windows.{ArePlanned}
+use Rattle.moment_body.specs.declared.model.ClockedModel.{ClockedModel}
+use Rattle.moment_body.specs.Stages.{Stages, IsModelOf}
+use Rattle.share_join.specs.Shares.{Share}
+use Rattle.share_moments.specs.Sharing.{share_of, AreShares, uses_beside}
+use Rattle.share_moments.proofs.Sharing.{is_share}
+use Rattle.share_run.specs.Standing.{Holding, IsShareBefore}
+use Rattle.share_run.specs.Taking.{Values}
+use Rattle.share_window.specs.Windows.{ArePlanned, IsShareWindow}
+use Rattle.side_theory.specs.Typed.{AreValuedBefore}
 use Rattle.tick_plan.specs.Plans.{moments_of}
 use Rattle.window_plan.specs.declared.moment.PlannedMoment.{PlannedMoment}
 use Rattle.window_plan.specs.Moments.{GoesBy}
@@ -47,3 +54,18 @@ module _ (s : Setting) (uses : List Use) (stages : Stages) (A : Assignment) (n :
         omega (arith, ahead, left, long, none)
     | inr last ↦ absurd (let is = last.is in omega (arith, is, none))
   ]
+
+-- each share may run the first moments, of which none fails before the last
+pub share_window : (s : Setting) (uses : List Use) (stages : Stages) (A : Assignment) (n : ℕ) (model : ClockedModel) (old course : Course) (count : ℕ) (shares : List Share) → AreShares s uses stages.pure shares → IsModelOf s model
+    → AreValuedBefore s A n → HasCourse s uses stages A n course count → EndsSo old course count
+    → (i : ℕ) (h : Holding) (now : Values) → slice_get shares i ≡ Some (share_of h) → IsShareBefore s uses (uses_beside i shares) A n h → length now ≡ length s.model.names
+    → IsShareWindow h model (take count course.moments) now s uses stages (uses_beside i shares) A n
+share_window s uses stages A n model old course count shares are model_is valued has ends i h now found before wide = record {
+  division = is_share s uses stages.pure shares are i (share_of h) found;
+  model_is = model_is;
+  valued = valued;
+  before = before;
+  planned = planned s uses stages A n course count has;
+  quiet = λ j moment lt at. ends.quiet j moment (let long = length-take-le count course.moments ends.within in omega (arith, lt, long)) (took_at count course.moments j moment at).1;
+  wide = wide;
+}

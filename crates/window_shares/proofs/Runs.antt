@@ -45,6 +45,7 @@ module _ (s : Setting) (uses : List Use) (stages : Stages) (A : Assignment) (n :
         let same : done ≡ count = all ∙ long in
         let (plan_is, were_low) = is.planned.behind U has.agrees (goes_whole s U n course.moments count count (omega arith) (subst (λ k. GoesBy s U n moments k) same has.goes)) in record {
           shares_stand = λ i ran found. subst (λ k. IsShareBefore s uses (uses_beside i (shares_in rans)) U (n + k) ran.new) same (has.stand all i ran found);
+          same = λ i ran found. (is.ran i ran found).same;
           pure = is.planned.pure;
           room = is.planned.room;
           plan_is = plan_is;

@@ -1,14 +1,19 @@
 -- Laws of a window that shares ran side by side.
-use Rattle.std.specs.Prelude.{ℕ, List, take}
+use Rattle.std.specs.Prelude.{◌≡◌, ℕ, List, length, take, Some, slice_get}
 use Rattle.flat_model.specs.Assignment.{Assignment}
 use Rattle.flat_model.specs.Setting.{Setting}
 use Rattle.flat_model.specs.Uses.{Use}
-use Rattle.moment_body.specs.Stages.{Stages}
+use Rattle.moment_body.specs.declared.model.ClockedModel.{ClockedModel}
+use Rattle.moment_body.specs.Stages.{Stages, IsModelOf}
 use Rattle.run_ahead.specs.Ahead.{Window, IsAloneBefore, HasRunOn}
-use Rattle.share_join.specs.Shares.{AreSharesOf}
-use Rattle.share_window.specs.Windows.{ArePlanned}
+use Rattle.share_join.specs.Shares.{Share, AreSharesOf}
+use Rattle.share_moments.specs.Sharing.{share_of, AreShares, uses_beside}
+use Rattle.share_run.specs.Standing.{Holding, IsShareBefore}
+use Rattle.share_run.specs.Taking.{Values}
+use Rattle.share_window.specs.Windows.{ArePlanned, IsShareWindow}
+use Rattle.side_theory.specs.Typed.{AreValuedBefore}
 use Rattle.window_plan.specs.declared.moment.PlannedMoment.{PlannedMoment}
-use Rattle.window_plan.specs.Windows.{Course, HasCourse}
+use Rattle.window_plan.specs.Windows.{Course, HasCourse, EndsSo}
 use Rattle.window_shares.specs.Running.{IsRunBy, IsBehind}
 use Rattle.window_shares.specs.Sharing.{ShareRan, shares_in, HaveRun, AreQuiet, HasWindow}
 
@@ -21,6 +26,13 @@ AcrossLaw = (s : Setting) (uses : List Use) (stages : Stages) (moments : List Pl
 -- moments that were planned one behind the other are planned for shares
 abbrev pub PlannedLaw : Type 0
 PlannedLaw = (s : Setting) (uses : List Use) (stages : Stages) (A : Assignment) (n : ℕ) (course : Course) (count : ℕ) → HasCourse s uses stages A n course count → ArePlanned s uses stages A n (take count course.moments)
+
+-- shares of which none names what another reaches may each run a window that was planned, where they stand before it
+abbrev pub ShareLaw : Type 0
+ShareLaw = (s : Setting) (uses : List Use) (stages : Stages) (A : Assignment) (n : ℕ) (model : ClockedModel) (old course : Course) (count : ℕ) (shares : List Share) → AreShares s uses stages.pure shares → IsModelOf s model
+    → AreValuedBefore s A n → HasCourse s uses stages A n course count → EndsSo old course count
+    → (i : ℕ) (h : Holding) (now : Values) → slice_get shares i ≡ Some (share_of h) → IsShareBefore s uses (uses_beside i shares) A n h → length now ≡ length s.model.names
+    → IsShareWindow h model (take count course.moments) now s uses stages (uses_beside i shares) A n
 
 -- what shares ran of a window that was planned is a window of a run, and where nothing failed what stands of its shares and its plan is kept
 abbrev pub RunsLaw : Type 0

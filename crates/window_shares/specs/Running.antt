@@ -14,7 +14,7 @@ use Rattle.run_ahead.specs.Ahead.{Window}
 use Rattle.run_moments.specs.Moving.{IsPlanBefore}
 use Rattle.share_join.specs.Shares.{own_uses, all_uses, AreSharesOf}
 use Rattle.share_moments.specs.Sharing.{uses_beside}
-use Rattle.share_run.specs.Standing.{IsShareBefore}
+use Rattle.share_run.specs.Standing.{IsShareBefore, pieces_of}
 use Rattle.window_plan.specs.declared.moment.PlannedMoment.{PlannedMoment}
 use Rattle.window_plan.specs.Drafts.{AreLows, WereLow}
 use Rattle.window_plan.specs.Moments.{base_of}
@@ -55,9 +55,10 @@ pub record IsRunBy (s : Setting) (uses : List Use) (stages : Stages) (A : Assign
   pub shows : ShowsLeft (columns_of s.model.names) (take count course.moments) rans done window
   pub closes : ClosesAs (take count course.moments) rans done window.fault
 
--- what is kept before moment m of S: each share stands, and so does the plan, with which sites were low
+-- what is kept before moment m of S: each share stands with the same base partitions, and so does the plan, with which sites were low
 pub record IsBehind (uses : List Use) (stages : Stages) (rans : List ShareRan) (course : Course) (s : Setting) (S : Assignment) (m : ℕ) : Type 0 where
   pub shares_stand : (i : ℕ) (ran : ShareRan) → slice_get rans i ≡ Some ran → IsShareBefore s uses (uses_beside i (shares_in rans)) S m ran.new
+  pub same : (i : ℕ) (ran : ShareRan) → slice_get rans i ≡ Some ran → pieces_of ran.new ≡ pieces_of ran.old
   pub pure : ArePure s stages.pure course.pure
   pub room : HaveRoom s course.moments
   pub plan_is : IsPlanBefore s S m course.plan
