@@ -19,9 +19,9 @@ use Rattle.window_shares.specs.Sharing.{ShareRan, shares_in, HaveRun, AreQuiet, 
 
 -- where shares of the uses were run over planned moments, something has these moments as they left them, up to the first at which anything failed
 abbrev pub AcrossLaw : Type 0
-AcrossLaw = (s : Setting) (uses : List Use) (stages : Stages) (moments : List PlannedMoment) (A : Assignment) (n : ℕ) (rans : List ShareRan) (count : ℕ)
-    → AreSharesOf s uses stages.pure (shares_in rans) → IsAloneBefore s A n → ArePlanned s uses stages A n moments → (have : HaveRun s uses moments A n rans) → AreQuiet moments rans count
-    → (U : Assignment) × HasWindow s uses stages.pure moments A n rans have count U
+AcrossLaw = (s : Setting) (uses : List Use) (stages : Stages) (moments : List PlannedMoment) (A : Assignment) (n : ℕ) (runs : List ShareRan) (count : ℕ)
+    → AreSharesOf s uses stages.pure (shares_in runs) → IsAloneBefore s A n → ArePlanned s uses stages A n moments → (have : HaveRun s uses moments A n runs) → AreQuiet moments runs count
+    → (U : Assignment) × HasWindow s uses stages.pure moments A n runs have count U
 
 -- moments that were planned one behind the other are planned for shares
 abbrev pub PlannedLaw : Type 0
@@ -36,5 +36,5 @@ ShareLaw = (s : Setting) (uses : List Use) (stages : Stages) (A : Assignment) (n
 
 -- what shares ran of a window that was planned is a window of a run, and where nothing failed what stands of its shares and its plan is kept
 abbrev pub RunsLaw : Type 0
-RunsLaw = (s : Setting) (uses : List Use) (stages : Stages) (A : Assignment) (n : ℕ) (old course : Course) (count : ℕ) (rans : List ShareRan) (done : ℕ) (window : Window)
-    → IsAloneBefore s A n → IsRunBy s uses stages A n old course count rans done window → HasRunOn (IsBehind uses stages rans course) s A n window
+RunsLaw = (s : Setting) (uses : List Use) (stages : Stages) (A : Assignment) (n : ℕ) (old course : Course) (count : ℕ) (runs : List ShareRan) (done : ℕ) (window : Window)
+    → IsAloneBefore s A n → IsRunBy s uses stages A n old course count runs done window → HasRunOn (IsBehind uses stages runs course) s A n window
