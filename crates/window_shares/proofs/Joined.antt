@@ -18,37 +18,37 @@ use Rattle.window_plan.specs.Moments.{base_of}
 use Rattle.window_shares.specs.Sharing.{ShareRan, shares_in, HaveRun}
 
 -- an assignment of which each moment of a window joins what the shares left at it
-pub record Joined (s : Setting) (uses : List Use) (moments : List PlannedMoment) (A : Assignment) (n : ℕ) (rans : List ShareRan) (have : HaveRun s uses moments A n rans) : Type 0 where
+pub record Joined (s : Setting) (uses : List Use) (moments : List PlannedMoment) (A : Assignment) (n : ℕ) (runs : List ShareRan) (have : HaveRun s uses moments A n runs) : Type 0 where
   pub lasts : ℕ → ℕ → Values
-  pub lasts_are : (i : ℕ) (ran : ShareRan) (found : slice_get rans i ≡ Some ran) → lasts i ≡ (have i ran found).lasts
+  pub lasts_are : (i : ℕ) (ran : ShareRan) (found : slice_get runs i ≡ Some ran) → lasts i ≡ (have i ran found).lasts
   pub after : Assignment
   pub agrees : AgreeBefore A after n
-  pub joins : (j : ℕ) (moment : PlannedMoment) → slice_get moments j ≡ Some moment → JoinsShares (base_of moment) (λ i. value_in (lasts i j)) (shares_in rans) (λ x. after x (n + j))
+  pub joins : (j : ℕ) (moment : PlannedMoment) → slice_get moments j ≡ Some moment → JoinsShares (base_of moment) (λ i. value_in (lasts i j)) (shares_in runs) (λ x. after x (n + j))
 
-module _ (s : Setting) (uses pure : List Use) (moments : List PlannedMoment) (A : Assignment) (n : ℕ) (rans : List ShareRan) (shares_are : AreSharesOf s uses pure (shares_in rans)) (have : HaveRun s uses moments A n rans) where
+module _ (s : Setting) (uses pure : List Use) (moments : List PlannedMoment) (A : Assignment) (n : ℕ) (runs : List ShareRan) (shares_are : AreSharesOf s uses pure (shares_in runs)) (have : HaveRun s uses moments A n runs) where
   -- what the share in a place left at each moment
-  lasts_at : (i : ℕ) (o : Option ShareRan) → slice_get rans i ≡ o → ℕ → Values
+  lasts_at : (i : ℕ) (o : Option ShareRan) → slice_get runs i ≡ o → ℕ → Values
   lasts_at i None e j = []
   lasts_at i (Some ran) e j = (have i ran e).lasts j
 
   lasts_in : ℕ → ℕ → Values
-  lasts_in i = lasts_at i (slice_get rans i) refl
+  lasts_in i = lasts_at i (slice_get runs i) refl
 
-  lasts_same : (i : ℕ) (ran : ShareRan) (found : slice_get rans i ≡ Some ran) → lasts_in i ≡ (have i ran found).lasts
+  lasts_same : (i : ℕ) (ran : ShareRan) (found : slice_get runs i ≡ Some ran) → lasts_in i ≡ (have i ran found).lasts
   unfolding lasts_in lasts_at
-  lasts_same i ran found = path_j (λ o e. lasts_at i (slice_get rans i) refl ≡ lasts_at i o e) refl found
+  lasts_same i ran found = path_j (λ o e. lasts_at i (slice_get runs i) refl ≡ lasts_at i o e) refl found
 
   base_in : Option PlannedMoment → Row
   base_in None x = None
   base_in (Some moment) x = base_of moment x
 
-  joined_at : (j : ℕ) → (last : Row) × JoinsShares (base_in (slice_get moments j)) (λ i. value_in (lasts_in i j)) (shares_in rans) last
-  joined_at j = joins_shares s uses pure (shares_in rans) shares_are (base_in (slice_get moments j)) (λ i. value_in (lasts_in i j))
+  joined_at : (j : ℕ) → (last : Row) × JoinsShares (base_in (slice_get moments j)) (λ i. value_in (lasts_in i j)) (shares_in runs) last
+  joined_at j = joins_shares s uses pure (shares_in runs) shares_are (base_in (slice_get moments j)) (λ i. value_in (lasts_in i j))
 
   rows : ℕ → Row
   rows j = (joined_at j).0
 
-  pub joined_window : Joined s uses moments A n rans have
+  pub joined_window : Joined s uses moments A n runs have
   unfolding rows base_in
   joined_window = record {
     lasts = lasts_in;

@@ -5,3 +5,4 @@ pub mod Moment
 pub mod Plans
 pub mod Runs
 pub mod Shown
+pub mod Stops

@@ -60,10 +60,10 @@ none_told (told ∷ tolds) none = ap (λ o. earlier o (earliest tolds)) (none 0 
 abbrev uses_by : List (List Use) → List Entry → Share
 uses_by pieces waiting = record { pieces = pieces; waiting = uses_of waiting }
 
-module _ (s : Setting) (uses : List Use) (stages : Stages) (moments : List PlannedMoment) (A : Assignment) (n : ℕ) (rans : List ShareRan) (shares_are : AreSharesOf s uses stages.pure (shares_in rans))
-    (planned : ArePlanned s uses stages A n moments) (have : HaveRun s uses moments A n rans) (joint : Joined s uses moments A n rans have) where
+module _ (s : Setting) (uses : List Use) (stages : Stages) (moments : List PlannedMoment) (A : Assignment) (n : ℕ) (runs : List ShareRan) (shares_are : AreSharesOf s uses stages.pure (shares_in runs))
+    (planned : ArePlanned s uses stages A n moments) (have : HaveRun s uses moments A n runs) (joint : Joined s uses moments A n runs have) where
   abbrev pub shares : List Share
-  shares = shares_in rans
+  shares = shares_in runs
 
   abbrev pub others : ℕ → List Use
   others i = uses_beside i shares
@@ -77,12 +77,12 @@ module _ (s : Setting) (uses : List Use) (stages : Stages) (moments : List Plann
   -- U goes by the first moments, as each share left them
   pub record GoesSoFar (j : ℕ) : Type 0 where
     pub goes : GoesBy s U n moments j
-    pub values : (i : ℕ) (ran : ShareRan) (found : slice_get rans i ≡ Some ran) (k x : ℕ) → k < j → (IsReachedBy x (others i) → ⊥) → U x (n + k) ≡ value_in ((have i ran found).lasts k) x
+    pub values : (i : ℕ) (ran : ShareRan) (found : slice_get runs i ≡ Some ran) (k x : ℕ) → k < j → (IsReachedBy x (others i) → ⊥) → U x (n + k) ≡ value_in ((have i ran found).lasts k) x
 
-  pub by_share : (j : ℕ) → GoesSoFar j → (i : ℕ) (ran : ShareRan) (found : slice_get rans i ≡ Some ran) → GoesByShare s (others i) U n moments (λ k. value_in ((have i ran found).lasts k)) j
+  pub by_share : (j : ℕ) → GoesSoFar j → (i : ℕ) (ran : ShareRan) (found : slice_get runs i ≡ Some ran) → GoesByShare s (others i) U n moments (λ k. value_in ((have i ran found).lasts k)) j
   by_share j far i ran found = record { goes = far.goes; values = far.values i ran found }
 
-  module _ (j : ℕ) (moment : PlannedMoment) (here : slice_get moments j ≡ Some moment) (far : GoesSoFar j) (went : (i : ℕ) (ran : ShareRan) → slice_get rans i ≡ Some ran → j ≤ ran.done) where
+  module _ (j : ℕ) (moment : PlannedMoment) (here : slice_get moments j ≡ Some moment) (far : GoesSoFar j) (went : (i : ℕ) (ran : ShareRan) → slice_get runs i ≡ Some ran → j ≤ ran.done) where
     abbrev m : ℕ
     m = n + j
 
@@ -97,7 +97,7 @@ module _ (s : Setting) (uses : List Use) (stages : Stages) (moments : List Plann
 
     -- ---- what a share took
 
-    module _ (i : ℕ) (ran : ShareRan) (found : slice_get rans i ≡ Some ran) where
+    module _ (i : ℕ) (ran : ShareRan) (found : slice_get runs i ≡ Some ran) where
       abbrev run : HasRunShare ran.old ran.new moments ran.own ran.rows ran.done ran.told s uses (others i) A n
       run = have i ran found
 
@@ -139,7 +139,7 @@ module _ (s : Setting) (uses : List Use) (stages : Stages) (moments : List Plann
       values_here x alone = by_own (reached_or (own_uses share) x) ∙ ap (λ row. value_in (row j) x) (joint.lasts_are i ran found)
         where
           at : slice_get shares i ≡ Some share
-          at = at_map share_in rans i ran found
+          at = at_map share_in runs i ran found
 
           by_own : IsReachedBy x (own_uses share) ⊎ (IsReachedBy x (own_uses share) → ⊥) → U x m ≡ lasts i x
           by_own (inl own) = (joint.joins j moment here).own i (own_uses share) x (at_map own_uses shares i share at) own
@@ -150,15 +150,15 @@ module _ (s : Setting) (uses : List Use) (stages : Stages) (moments : List Plann
 
     -- ---- what all took
 
-    have_taken : HaveTaken s uses U m base shares lasts (map (told_at j) rans)
+    have_taken : HaveTaken s uses U m base shares lasts (map (told_at j) runs)
     have_taken = record {
       each = λ i share found.
-          let (ran, at, same) = map_at share_in rans i share found in
-          (told_at j ran, at_map (told_at j) rans i ran at, subst (λ one. HasTaken s uses U m base one (lasts i) (told_at j ran)) same (has_taken i ran at));
-      no_more = λ i told found. let (ran, at, same) = map_at (told_at j) rans i told found in (share_in ran, at_map share_in rans i ran at);
+          let (ran, at, same) = map_at share_in runs i share found in
+          (told_at j ran, at_map (told_at j) runs i ran at, subst (λ one. HasTaken s uses U m base one (lasts i) (told_at j ran)) same (has_taken i ran at));
+      no_more = λ i told found. let (ran, at, same) = map_at (told_at j) runs i told found in (share_in ran, at_map share_in runs i ran at);
     }
 
-    beside_run : AreRunBeside s uses stages.pure shares U m planned_here.inputs base lasts (λ x. U x m) moment.told (map (told_at j) rans)
+    beside_run : AreRunBeside s uses stages.pure shares U m planned_here.inputs base lasts (λ x. U x m) moment.told (map (told_at j) runs)
     beside_run = record {
       shares_are = shares_are;
       are = planned_here.are;
@@ -168,10 +168,10 @@ module _ (s : Setting) (uses : List Use) (stages : Stages) (moments : List Plann
       joins = joint.joins j moment here;
     }
 
-    ran_here : IsAloneBefore s U m → IsRunMoment s uses stages.pure (all_pieces shares) (all_waiting shares) U m moment.at base (λ x. U x m) moment.site (told_by moment rans j)
-    ran_here alone = run_moment s uses stages.pure shares U m planned_here.inputs base lasts (λ x. U x m) moment.told (map (told_at j) rans) beside_run alone moment.at planned_here.here moment.site planned_here.site_is
+    ran_here : IsAloneBefore s U m → IsRunMoment s uses stages.pure (all_pieces shares) (all_waiting shares) U m moment.at base (λ x. U x m) moment.site (told_by moment runs j)
+    ran_here alone = run_moment s uses stages.pure shares U m planned_here.inputs base lasts (λ x. U x m) moment.told (map (told_at j) runs) beside_run alone moment.at planned_here.here moment.site planned_here.site_is
 
-    pub run_here : IsAloneBefore s U m → IsRunAt s uses (stages_by stages.pure shares) U m moment.site (told_by moment rans j)
+    pub run_here : IsAloneBefore s U m → IsRunAt s uses (stages_by stages.pure shares) U m moment.site (told_by moment runs j)
     run_here alone =
         let (plan, plan_at) = plan_there s (with_row U m base) m in record {
           at = moment.at;
@@ -189,14 +189,14 @@ module _ (s : Setting) (uses : List Use) (stages : Stages) (moments : List Plann
         ((sites_alike s uses stages.pure (all_pieces shares) (all_waiting shares) run.stages run.reach U m run.inputs base run.owns run.row (λ x. U x m) run.staged).answers site)
 
     -- nothing fails where the moment is quiet and no share stops
-    module _ (still : IsQuiet moment) (on : (i : ℕ) (ran : ShareRan) → slice_get rans i ≡ Some ran → j < ran.done) where
-      none_stops : (i : ℕ) (told : Option EquationFailing) → slice_get (map (told_at j) rans) i ≡ Some told → told ≡ None
+    module _ (still : IsQuiet moment) (on : (i : ℕ) (ran : ShareRan) → slice_get runs i ≡ Some ran → j < ran.done) where
+      none_stops : (i : ℕ) (told : Option EquationFailing) → slice_get (map (told_at j) runs) i ≡ Some told → told ≡ None
       none_stops i told found =
-          let (ran, at, same) = map_at (told_at j) rans i told found in
+          let (ran, at, same) = map_at (told_at j) runs i told found in
           sym same ∙ ap (λ b. if b then ran.told else None) (ne_eqb ran.done j (λ e. let lt = on i ran at in omega (arith, lt, e)))
 
-      none_here : told_by moment rans j ≡ None
-      none_here = ap (λ o. earlier o (earliest (map (told_at j) rans))) still.told ∙ none_told (map (told_at j) rans) none_stops
+      none_here : told_by moment runs j ≡ None
+      none_here = ap (λ o. earlier o (earliest (map (told_at j) runs))) still.told ∙ none_told (map (told_at j) runs) none_stops
 
       pub run_well : IsAloneBefore s U m → IsRunAt s uses (stages_by stages.pure shares) U m None None
       run_well alone =

@@ -33,27 +33,27 @@ row_of_cells f columns row long cells = lists_same row (map f columns) at
       | inr past ↦ slice_get_past row c (omega (arith, past, long)) ∙ sym (slice_get_past (map f columns) c (let same = length-map columns f in omega (arith, past, same)))
     ]
 
-module _ (s : Setting) (uses pure : List Use) (moments : List PlannedMoment) (A : Assignment) (n : ℕ) (rans : List ShareRan) (have : HaveRun s uses moments A n rans) (done : ℕ) (U : Assignment)
-    (is : HasWindow s uses pure moments A n rans have done U) where
+module _ (s : Setting) (uses pure : List Use) (moments : List PlannedMoment) (A : Assignment) (n : ℕ) (runs : List ShareRan) (have : HaveRun s uses moments A n runs) (done : ℕ) (U : Assignment)
+    (is : HasWindow s uses pure moments A n runs have done U) where
   -- what the shares left of a name is its value
-  left_value : (j x : ℕ) (moment : PlannedMoment) (value : Option Value) → j < done → slice_get moments j ≡ Some moment → IsLeftBy rans moment j x value → value ≡ U x (n + j)
-  left_value j x moment value lt here left = by_reach (reached_or (all_uses (shares_in rans)) x)
+  left_value : (j x : ℕ) (moment : PlannedMoment) (value : Option Value) → j < done → slice_get moments j ≡ Some moment → IsLeftBy runs moment j x value → value ≡ U x (n + j)
+  left_value j x moment value lt here left = by_reach (reached_or (all_uses (shares_in runs)) x)
     where
-      by_reach : IsReachedBy x (all_uses (shares_in rans)) ⊎ (IsReachedBy x (all_uses (shares_in rans)) → ⊥) → value ≡ U x (n + j)
+      by_reach : IsReachedBy x (all_uses (shares_in runs)) ⊎ (IsReachedBy x (all_uses (shares_in runs)) → ⊥) → value ≡ U x (n + j)
       by_reach (inl reached) =
-          let (i, share, found, own) = of_one own_uses (shares_in rans) x reached in
-          let (ran, there, same) = map_at share_in rans i share found in
+          let (i, share, found, own) = of_one own_uses (shares_in runs) x reached in
+          let (ran, there, same) = map_at share_in runs i share found in
           let reaches : IsReachedBy x (own_uses (share_in ran)) = subst (λ h. IsReachedBy x (own_uses h)) (sym same) own in
           let (at, named, wide, shows) = left.own i ran there reaches in
           shows ∙ sym (is.shown i ran j at x there lt named wide reaches)
       by_reach (inr none) = left.rest none ∙ sym (is.rest j x moment lt here none)
 
-  row_is : (columns : List ℕ) (j : ℕ) (moment : PlannedMoment) (row : List (Option Value)) → j < done → slice_get moments j ≡ Some moment → IsRowOf columns rans moment j row → row ≡ map (λ x. U x (n + j)) columns
+  row_is : (columns : List ℕ) (j : ℕ) (moment : PlannedMoment) (row : List (Option Value)) → j < done → slice_get moments j ≡ Some moment → IsRowOf columns runs moment j row → row ≡ map (λ x. U x (n + j)) columns
   row_is columns j moment row lt here cells =
       row_of_cells (λ x. U x (n + j)) columns row cells.long (λ c x column. left_value j x moment (value_in row c) lt here (cells.cells c x column))
 
   module _ (within : (j : ℕ) → j < done → (moment : PlannedMoment) × (slice_get moments j ≡ Some moment)) (places : (j : ℕ) (moment : PlannedMoment) → slice_get moments j ≡ Some moment → moment_at s.instants (n + j) ≡ Some moment.at)
-      (window : Window) (shows : ShowsLeft (columns_of s.model.names) moments rans done window) where
+      (window : Window) (shows : ShowsLeft (columns_of s.model.names) moments runs done window) where
     under : (j : ℕ) → 0 + j < length window.moments → j < done
     under j lt = let long = shows.long in omega (arith, lt, long)
 

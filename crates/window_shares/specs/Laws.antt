@@ -14,14 +14,15 @@ use Rattle.share_window.specs.Windows.{ArePlanned, IsShareWindow}
 use Rattle.side_theory.specs.Typed.{AreValuedBefore}
 use Rattle.window_plan.specs.declared.moment.PlannedMoment.{PlannedMoment}
 use Rattle.window_plan.specs.Windows.{Course, HasCourse, EndsSo}
-use Rattle.window_shares.specs.Running.{IsRunBy, IsBehind}
+use Rattle.window_shares.specs.Running.{ClosesAs, IsRunBy, IsBehind}
 use Rattle.window_shares.specs.Sharing.{ShareRan, shares_in, HaveRun, AreQuiet, HasWindow}
+use Rattle.window_shares.specs.Stopping.{IsFirstStop, fault_at}
 
 -- where shares of the uses were run over planned moments, something has these moments as they left them, up to the first at which anything failed
 abbrev pub AcrossLaw : Type 0
-AcrossLaw = (s : Setting) (uses : List Use) (stages : Stages) (moments : List PlannedMoment) (A : Assignment) (n : ℕ) (rans : List ShareRan) (count : ℕ)
-    → AreSharesOf s uses stages.pure (shares_in rans) → IsAloneBefore s A n → ArePlanned s uses stages A n moments → (have : HaveRun s uses moments A n rans) → AreQuiet moments rans count
-    → (U : Assignment) × HasWindow s uses stages.pure moments A n rans have count U
+AcrossLaw = (s : Setting) (uses : List Use) (stages : Stages) (moments : List PlannedMoment) (A : Assignment) (n : ℕ) (runs : List ShareRan) (count : ℕ)
+    → AreSharesOf s uses stages.pure (shares_in runs) → IsAloneBefore s A n → ArePlanned s uses stages A n moments → (have : HaveRun s uses moments A n runs) → AreQuiet moments runs count
+    → (U : Assignment) × HasWindow s uses stages.pure moments A n runs have count U
 
 -- moments that were planned one behind the other are planned for shares
 abbrev pub PlannedLaw : Type 0
@@ -34,7 +35,12 @@ ShareLaw = (s : Setting) (uses : List Use) (stages : Stages) (A : Assignment) (n
     → (i : ℕ) (h : Holding) (now : Values) → slice_get shares i ≡ Some (share_of h) → IsShareBefore s uses (uses_beside i shares) A n h → length now ≡ length s.model.names
     → IsShareWindow h model (take count course.moments) now s uses stages (uses_beside i shares) A n
 
+-- where a window was run up to the first moment at which anything failed, it ends as what is told of this moment says
+abbrev pub StopLaw : Type 0
+StopLaw = (s : Setting) (uses : List Use) (moments : List PlannedMoment) (A : Assignment) (n : ℕ) (runs : List ShareRan) → HaveRun s uses moments A n runs
+    → (done : ℕ) → IsFirstStop moments runs done → ClosesAs moments runs done (fault_at moments runs done)
+
 -- what shares ran of a window that was planned is a window of a run, and where nothing failed what stands of its shares and its plan is kept
 abbrev pub RunsLaw : Type 0
-RunsLaw = (s : Setting) (uses : List Use) (stages : Stages) (A : Assignment) (n : ℕ) (old course : Course) (count : ℕ) (rans : List ShareRan) (done : ℕ) (window : Window)
-    → IsAloneBefore s A n → IsRunBy s uses stages A n old course count rans done window → HasRunOn (IsBehind uses stages rans course) s A n window
+RunsLaw = (s : Setting) (uses : List Use) (stages : Stages) (A : Assignment) (n : ℕ) (old course : Course) (count : ℕ) (runs : List ShareRan) (done : ℕ) (window : Window)
+    → IsAloneBefore s A n → IsRunBy s uses stages A n old course count runs done window → HasRunOn (IsBehind uses stages runs course) s A n window

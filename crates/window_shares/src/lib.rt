@@ -6,4 +6,4 @@
 
 mod law;
 
-pub use law::{across_law, planned_law, runs_law, share_law};
+pub use law::{across_law, planned_law, runs_law, share_law, stop_law};
