@@ -8,10 +8,11 @@ use Rattle.command_stages.specs.declared.end.End.{End}
 use Rattle.command_stages.specs.Ends.{Halts}
 use Rattle.command_stages.specs.Reading.{IsStepOf, KeepsShelf}
 use Rattle.flat_model.specs.Setting.{Setting}
+use Rattle.run_tally.specs.Tallies.{AddsUp}
 use Rattle.run_trace.specs.Planned.{IsPlannedRun}
 use Rattle.run_trace.specs.Printing.{EndsOn}
 use Rattle.run_trace.specs.declared.model.PlannedRun.{PlannedRun}
-use Rattle.clocked_run.specs.declared.task.Task.TheVariants.{Run}
+use Rattle.clocked_run.specs.declared.task.Task.TheVariants.{Run, Stress}
 use Rattle.clocked_run.specs.TopCall.{TopCall}
 use Rattle.clocked_run.specs.private.Putting.{answer_of, PutsLine, PrintsText}
 use Rattle.clocked_run.specs.private.Tasks.{CanRun, Ends}
@@ -40,4 +41,13 @@ module _ (words : List (List ℕ)) (o : Outside) (status : Status) (shelf : Keep
     where
       right : (s : Setting) → IsPlannedRun run s → (a : Answer) → Runs s a ⊎ (a ≡ no_memory) → IsRight words o a
       right s is a (inl runs) = inl (ends o (itself o) s is a runs)
+      right s is a (inr e) = inr e
+
+  pub stress_call : (members : ℕ) (run : PlannedRun) → InCall o (λ p. Ends (actions (reads_in p) words) (Stress members run)) → CanRun run
+      → ((s : Setting) → IsPlannedRun run s → EndsOn (λ answer. AddsUp members s answer ⊎ (answer ≡ no_memory)) o.out o.err status) → TopCall words o status
+  stress_call members run ends can prints = let (s, is) = can.1 in
+      top_call words o status (weaker (λ answer. AddsUp members s answer ⊎ (answer ≡ no_memory)) (IsRight words o) o status (right s is) (prints s is o refl refl)) shelf counts
+    where
+      right : (s : Setting) → IsPlannedRun run s → (a : Answer) → AddsUp members s a ⊎ (a ≡ no_memory) → IsRight words o a
+      right s is a (inl adds) = inl (ends o (itself o) s is a adds)
       right s is a (inr e) = inr e

@@ -36,7 +36,7 @@ use Rattle.trace_print.specs.declared.code.Code.{Code}
 use Rattle.trace_print.specs.declared.code.Code.TheVariants.{C2, C3, C6, C8, C9}
 use Rattle.command_answer.specs.declared.status.Status.{Status}
 use Rattle.command_answer.specs.declared.status.Status.TheVariants.{Done, Refused, Faulted, Usage, ReadFault, WriteFault, NoMemory}
-use Rattle.command_answer.specs.Actions.{RunsAlone, clocking_of, model_of, table_of, in_mode, actions}
+use Rattle.command_answer.specs.Actions.{Runs, RunsAlone, Stresses, clocking_of, model_file, source_in, model_of, table_of, setting_of, in_mode, actions}
 use Rattle.command_answer.specs.Calls.{Outside, ReadRose, WriteRose, EndsWith, whole, out_failed, err_failed, IsNamed, IsRight, reads_in, no_memory}
 use Rattle.command_answer.specs.Layers.{asked, few, lexed, parsed, flattened, typed, termed, classed, solved, checked, ordered, tabled, untabled, counted, timed}
 use Rattle.command_answer.specs.Stages.{Answer, Stage, ◌>>=◌, always, ends_with, layer, refused, printed, usage_answer}
@@ -153,6 +153,14 @@ module _ (words : List (List ℕ)) (o : Outside) where
   run_caused s a (inl (is, run), alone) = subst Cause (sym is) tt
   run_caused s a (inr (is, run), alone) = subst Cause (sym is) tt
 
+  stress_caused : (members : ℕ) (s : Setting) → Caused (ends_with (Stresses members s))
+  unfolding ends_with Caused
+  stress_caused members s a is = by_run is.runs.0
+    where
+      by_run : Runs s is.run → Cause a.status
+      by_run (inl (ended, run)) = subst Cause (ap (λ (x : Answer). x.status) (sym (is.done ended run.assignment run.meets))) tt
+      by_run (inr (ended, run)) = subst Cause (ap (λ (x : Answer). x.status) (sym (is.faulted ended))) tt
+
   asked_caused : Caused (asked words)
   unfolding asked layer Caused
   asked_caused a (fault, usage, same) = let one : usage_answer (usage_line fault) ≡ a = cc same in subst Cause (ap (λ (x : Answer). x.status) one) (fault, usage)
@@ -161,10 +169,17 @@ module _ (words : List (List ℕ)) (o : Outside) where
   unfolding clocking_of termed classed solved checked
   clocking_caused flat = both _ _ (sure _) (λ terms m. both _ _ (layered _ _ mixed) (λ classes n. both _ _ (layered _ _ (clocks classes)) (λ grids k. layered _ _ (checks classes))))
 
+  source_caused : (mode : Mode) (name : List ℕ) → ((file : List ℕ) → model_file mode name ≡ Some file → Caused (reads_in o file)) → Caused (source_in (reads_in o) mode name)
+  unfolding source_in
+  source_caused mode.Run name files = files name refl
+  source_caused mode.Flat name files = files name refl
+  source_caused mode.Clocks name files = files name refl
+  source_caused (mode.Stress members) name files = sure _
+
   module _ (c : Choice) (is : IsCommand words c) where
     model_caused : Caused (model_of (reads_in o) c)
     unfolding model_of lexed parsed flattened typed
-    model_caused = both _ _ (read_caused c.model (c, is, inl refl)) (λ text m. both _ _ (few_caused _ _ text) (λ _ n. both _ _ (layered _ _ (lexical text)) (λ tokens k.
+    model_caused = both _ _ (source_caused c.mode c.model (λ file at. read_caused file (c, is, inl at))) (λ text m. both _ _ (few_caused _ _ text) (λ _ n. both _ _ (layered _ _ (lexical text)) (λ tokens k.
         both _ _ (layered _ _ (syntactic text)) (λ tree l. both _ _ (layered _ _ names) (λ raw h. layered _ _ types)))))
 
     table_caused : (flat : FlatModel) (file : Option (List ℕ)) → c.table ≡ file → Caused (table_of (reads_in o) flat file)
@@ -172,12 +187,17 @@ module _ (words : List (List ℕ)) (o : Outside) where
     table_caused flat None at = layered _ _ tables
     table_caused flat (Some file) at = both _ _ (read_caused file (c, is, inr at)) (λ bytes m. both _ _ (few_caused _ _ bytes) (λ _ n. layered _ _ tables))
 
+    setting_caused : (flat : FlatModel) → Caused (setting_of (reads_in o) c flat)
+    unfolding setting_of ordered counted timed
+    setting_caused flat = both _ _ (clocking_caused flat) (λ clocking m. both _ _ (layered _ _ orders) (λ order n. both _ _ (table_caused flat c.table refl) (λ table k.
+        both _ _ (layered _ _ plans) (λ _ l. both _ _ (sure _) (λ instants h. sure _)))))
+
     mode_caused : (mode : Mode) (flat : FlatModel) → Caused (in_mode (reads_in o) mode c flat)
-    unfolding in_mode ordered counted timed
+    unfolding in_mode
     mode_caused mode.Flat flat = printed_caused _
     mode_caused mode.Clocks flat = both _ _ (clocking_caused flat) (λ clocking m. printed_caused _)
-    mode_caused mode.Run flat = both _ _ (clocking_caused flat) (λ clocking m. both _ _ (layered _ _ orders) (λ order n. both _ _ (table_caused flat c.table refl) (λ table k.
-        both _ _ (layered _ _ plans) (λ _ l. both _ _ (sure _) (λ instants h. run_caused _)))))
+    mode_caused mode.Run flat = both _ _ (setting_caused flat) (λ s m. run_caused s)
+    mode_caused (mode.Stress members) flat = both _ _ (setting_caused flat) (λ s m. stress_caused members s)
 
   caused : Caused (actions (reads_in o) words)
   unfolding actions asked layer

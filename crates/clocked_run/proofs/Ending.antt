@@ -19,6 +19,7 @@ usage_some fault.Words e = cc
 usage_some fault.Mode e = cc
 usage_some fault.Stop e = cc
 usage_some fault.Workers e = cc
+usage_some fault.Model e = cc
 
 -- each early end has a line on err, and leaves out
 line_some : (end : End) → (answer_of end).err ≢ []

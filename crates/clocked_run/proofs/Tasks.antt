@@ -1,7 +1,8 @@
 -- The command up to what is left to do.
 use Rattle.std.proofs.Common.{◌≡◌, subst, sym, inr, ℕ, List, ◌≤◌}
-use Rattle.command_words.specs.Choice.{Choice}
+use Rattle.command_words.specs.Choice.{Choice, IsMode}
 use Rattle.command_words.specs.declared.command.Mode.{Mode}
+use Rattle.command_words.specs.declared.command.Mode.TheVariants as mode
 use Rattle.flat_model.specs.declared.model.FlatModel.{FlatModel}
 use Rattle.flat_model.specs.Tables.{IsTime}
 use Rattle.command_answer.specs.Actions.{model_of, in_mode, actions}
@@ -9,9 +10,10 @@ use Rattle.command_answer.specs.Layers.{asked}
 use Rattle.command_answer.specs.Stages.{Answer, Stage, ◌>>=◌, layer, printed}
 use Rattle.command_stages.specs.declared.end.End.{End}
 use Rattle.command_stages.specs.Ends.{Halts}
+use Rattle.command_stages.specs.Segments.{HasFewMembers}
 use Rattle.command_stages.proofs.Halting.{halts_first, halts_next}
 use Rattle.clocked_run.specs.declared.task.Task.{Task}
-use Rattle.clocked_run.specs.declared.task.Task.TheVariants.{Print, Run}
+use Rattle.clocked_run.specs.declared.task.Task.TheVariants.{Print, Run, Stress}
 use Rattle.clocked_run.specs.private.Tasks.{Ends}
 
 module _ (reads : List ℕ → Stage (List ℕ)) (words : List (List ℕ)) where
@@ -36,6 +38,7 @@ module _ (reads : List ℕ → Stage (List ℕ)) (words : List (List ℕ)) where
       pub does : (task : Task) → Ends (in_mode reads mode c flat) task → Ends (actions reads words) task
       does (Print text) ends = moded (printed text.items) ends
       does (Run run) ends = λ s is answer runs. moded answer (ends s is answer runs)
+      does (Stress members run) ends = λ s is answer adds. moded answer (ends s is answer adds)
 
 -- the stop and the workers of a command
 pub stop_is : (words : List (List ℕ)) (c : Choice) → (asked words).makes c → IsTime c.stop
@@ -45,3 +48,14 @@ stop_is words c asks = (asks.choice_is.stop.early, asks.choice_is.stop.den_fits)
 pub workers_are : (words : List (List ℕ)) (c : Choice) → (asked words).makes c → (1 ≤ c.workers) × (c.workers ≤ 64)
 unfolding asked layer
 workers_are words c asks = (asks.choice_is.workers.some, asks.choice_is.workers.few)
+
+-- the members of the stress model are not too many
+few_in : (name model : List ℕ) (mode : Mode) → IsMode name model mode → HasFewMembers mode
+few_in name model mode.Run is = tt
+few_in name model mode.Flat is = tt
+few_in name model mode.Clocks is = tt
+few_in name model (mode.Stress members) is = is.1.few
+
+pub members_are : (words : List (List ℕ)) (c : Choice) → (asked words).makes c → HasFewMembers c.mode
+unfolding asked layer
+members_are words c asks = few_in _ _ c.mode asks.choice_is.mode

@@ -2,12 +2,11 @@ ghost use Rattle.std.specs.Prelude.{◌≤◌, IfErr, IfOk, map, string_bytes};
 ghost use Rattle.flat_model.specs.Models.{IsModel};
 ghost use Rattle.flat_model.specs.Tables.{IsTime};
 ghost use Rattle.command_words.specs.Choice.{choice_of};
-ghost use Rattle.command_words.specs.declared.command.Mode.TheVariants as mode;
-ghost use Rattle.command_answer.specs.Actions.{actions, in_mode};
+ghost use Rattle.command_answer.specs.Actions.{actions, setting_of};
 ghost use Rattle.command_answer.specs.Calls.{Outside, reads_in};
 ghost use Rattle.command_stages.specs.Ends.{Halts, IsPrintable};
 ghost use Rattle.command_stages.specs.Reading.{IsStepOf, KeepsShelf};
-ghost use Rattle.clocked_run.specs.private.Tasks.{CanRun, Ends, CanDo};
+ghost use Rattle.clocked_run.specs.private.Tasks.{CanRun, Ends, CanDo, Plans};
 
 use command_model::model_of;
 use command_stages::{
@@ -26,6 +25,8 @@ pub enum Task {
     Print(Vec<u8>),
     /// To run a model and print its trace.
     Run(PlannedRun),
+    /// To run the stress model of so many members and print what its rows add up to.
+    Stress(u64, PlannedRun),
 }
 
 /// What is left to do of the command of some words, in its mode.
@@ -64,6 +65,10 @@ pub fn task_of<'a, S: Shelf>(
             let run = planned(alloc, shelf, &command, flat)?;
             Ok(Task::Run(run))
         }
+        Mode::Stress(members) => {
+            let run = planned(alloc, shelf, &command, flat)?;
+            Ok(Task::Stress(members, run))
+        }
     }
 }
 
@@ -78,10 +83,10 @@ fn planned<'a, S: Shelf>(
     requires stop { IsTime command.now.stop }
     requires workers { (1 ≤ command.now.workers) × (command.now.workers ≤ 64) }
     ensures made { (o : Outside) → IsStepOf o (S.held shelf.old) (S.gives_empty shelf.old) (S.faults shelf.old) (S.faults shelf.new) →
-        IfOk result (λ run. Ends (in_mode (reads_in o) mode.Run (choice_of command.now) flat) (Task.Run run)) }
+        IfOk result (Plans (setting_of (reads_in o) (choice_of command.now) flat)) }
     ensures can { IfOk result CanRun }
     ensures ended { (o : Outside) → IsStepOf o (S.held shelf.old) (S.gives_empty shelf.old) (S.faults shelf.old) (S.faults shelf.new) →
-        IfErr result (Halts (in_mode (reads_in o) mode.Run (choice_of command.now) flat)) }
+        IfErr result (Halts (setting_of (reads_in o) (choice_of command.now) flat)) }
     ensures short { IfErr result IsPrintable }
     ensures shelf { KeepsShelf (S.held shelf.old) (S.held shelf.new) (S.gives_empty shelf.old) (S.gives_empty shelf.new) (S.faults shelf.old) (S.faults shelf.new) }
 {

@@ -6,6 +6,7 @@ use crate::report::report;
 use crate::task::{Task, task_of};
 use command_answer::Status;
 use outside_io::{Gate, Shelf, Sink, put_all};
+use run_tally::run_stress;
 use run_trace::run_model;
 use std::alloc::Global;
 use std::thread::Threads;
@@ -42,6 +43,7 @@ pub fn clocked_run<S: Shelf, O: Sink, E: Sink, G: Gate + Sync, R: Threads + Sync
     match task_of(alloc, words, shelf) {
         Ok(Task::Print(text)) => print(text.as_slice(), out),
         Ok(Task::Run(run)) => run_model(rt, gate, alloc, run, out, err),
+        Ok(Task::Stress(members, run)) => run_stress(rt, gate, alloc, members, run, out, err),
         Err(end) => report(&end, err),
     }
 }

@@ -7,13 +7,13 @@ use Rattle.command_words.specs.Answer.{IsCommand, IsUsage}
 use Rattle.command_words.specs.Choice.{Choice}
 use Rattle.command_words.specs.Lines.{usage_line}
 use Rattle.command_words.specs.declared.command.Mode.{Mode}
-use Rattle.command_words.specs.declared.command.Mode.TheVariants.{Run, Flat, Clocks}
+use Rattle.command_words.specs.declared.command.Mode.TheVariants.{Run, Flat, Clocks, Stress}
 use Rattle.command_words.specs.declared.command.UsageFault.{UsageFault}
 use Rattle.command_words.proofs.OneChoice as words_once
 use Rattle.flat_model.specs.declared.model.FlatModel.{FlatModel}
 use Rattle.command_answer.specs.declared.status.Status.{Status}
 use Rattle.command_answer.specs.declared.status.Status.TheVariants.{Usage, ReadFault, WriteFault, NoMemory}
-use Rattle.command_answer.specs.Actions.{model_of, table_of, in_mode, actions, told_files, IsAnswer}
+use Rattle.command_answer.specs.Actions.{model_file, source_in, model_of, table_of, setting_of, in_mode, actions, told_files, IsAnswer}
 use Rattle.command_answer.specs.Calls.{Outside, files_of, TellsFiles, ReadRose, WriteRose, GrewBoth, read_fault, reads_in, EndsWith, whole, out_failed, err_failed, IsQuiet, IsRight, Answers, CallLaw, PrintedLaw}
 use Rattle.command_answer.specs.Layers.{asked}
 use Rattle.command_answer.specs.Stages.{Answer, Stage, ◌>>=◌, always, layer, usage_answer}
@@ -37,29 +37,41 @@ module _ (P : Answer → Type 0) where
       ends a p (inr (x, m, e)) = inr (x, first.makes x m, (next x m).ends a p e)
 
   module _ (reads reads' : List ℕ → Stage (List ℕ)) (c : Choice)
-      (model : Under (reads c.model) (reads' c.model)) (table : (file : List ℕ) → c.table ≡ Some file → Under (reads file) (reads' file)) where
+      (model : (file : List ℕ) → model_file c.mode c.model ≡ Some file → Under (reads file) (reads' file)) (table : (file : List ℕ) → c.table ≡ Some file → Under (reads file) (reads' file)) where
+    under_source : (mode : Mode) (name : List ℕ) → ((file : List ℕ) → model_file mode name ≡ Some file → Under (reads file) (reads' file)) → Under (source_in reads mode name) (source_in reads' mode name)
+    unfolding source_in
+    under_source Run name files = files name refl
+    under_source Flat name files = files name refl
+    under_source Clocks name files = files name refl
+    under_source (Stress members) name files = itself _
+
     under_model : Under (model_of reads c) (model_of reads' c)
     unfolding model_of
-    under_model = both _ _ _ _ model (λ bytes m. itself _)
+    under_model = both _ _ _ _ (under_source c.mode c.model model) (λ bytes m. itself _)
 
     under_table : (flat : FlatModel) (file : Option (List ℕ)) → c.table ≡ file → Under (table_of reads flat file) (table_of reads' flat file)
     unfolding table_of
     under_table flat None is = itself _
     under_table flat (Some file) is = both _ _ _ _ (table file is) (λ bytes m. itself _)
 
+    under_setting : (flat : FlatModel) → Under (setting_of reads c flat) (setting_of reads' c flat)
+    unfolding setting_of
+    under_setting flat = both _ _ _ _ (itself _) (λ clocking m. both _ _ _ _ (itself _) (λ order n. both _ _ _ _ (under_table flat c.table refl) (λ rows k. itself _)))
+
     under_mode : (mode : Mode) (flat : FlatModel) → Under (in_mode reads mode c flat) (in_mode reads' mode c flat)
     unfolding in_mode
     under_mode Flat flat = itself _
     under_mode Clocks flat = itself _
-    under_mode Run flat = both _ _ _ _ (itself _) (λ clocking m. both _ _ _ _ (itself _) (λ order n. both _ _ _ _ (under_table flat c.table refl) (λ rows k. itself _)))
+    under_mode Run flat = both _ _ _ _ (under_setting flat) (λ s m. itself _)
+    under_mode (Stress members) flat = both _ _ _ _ (under_setting flat) (λ s m. itself _)
 
   pub under : (words : List (List ℕ)) (reads reads' : List ℕ → Stage (List ℕ))
-      → ((c : Choice) → IsCommand words c → (name : List ℕ) → (name ≡ c.model) ⊎ (c.table ≡ Some name) → Under (reads name) (reads' name))
+      → ((c : Choice) → IsCommand words c → (name : List ℕ) → (model_file c.mode c.model ≡ Some name) ⊎ (c.table ≡ Some name) → Under (reads name) (reads' name))
       → Under (actions reads words) (actions reads' words)
   unfolding actions asked layer
   under words reads reads' files = both _ _ _ _ (itself _) (λ c is. both _ _ _ _
-      (under_model reads reads' c (files c is c.model (inl refl)) (λ file at. files c is file (inr at)))
-      (λ flat m. under_mode reads reads' c (files c is c.model (inl refl)) (λ file at. files c is file (inr at)) c.mode flat))
+      (under_model reads reads' c (λ file at. files c is file (inl at)) (λ file at. files c is file (inr at)))
+      (λ flat m. under_mode reads reads' c (λ file at. files c is file (inl at)) (λ file at. files c is file (inr at)) c.mode flat))
 
 module _ (words : List (List ℕ)) (o : Outside) where
   -- what was read whole from files that are told is what is told

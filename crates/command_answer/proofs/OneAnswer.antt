@@ -1,28 +1,32 @@
 -- Words have one answer, since each stage of the command has.
-use Rattle.std.proofs.Common.{◌≡◌, sym, ◌∙◌, ℕ, List, Option, Some, None, Ok}
+use Rattle.std.proofs.Common.{◌≡◌, sym, subst, map, ◌∙◌, ℕ, List, Option, Some, None, Ok}
 use Rattle.outside_io.specs.Files.{Told, File}
 use Rattle.command_words.specs.Choice.{Choice}
 use Rattle.command_words.specs.declared.command.Mode.{Mode}
-use Rattle.command_words.specs.declared.command.Mode.TheVariants.{Run, Flat, Clocks}
+use Rattle.command_words.specs.declared.command.Mode.TheVariants.{Run, Flat, Clocks, Stress}
 use Rattle.eq_order.specs.declared.uses.Use.{Use}
 use Rattle.flat_model.specs.declared.clock.Clocking.{Clocking}
 use Rattle.flat_model.specs.declared.model.FlatModel.{FlatModel}
 use Rattle.flat_model.specs.declared.place.Place.TheVariants as place
 use Rattle.flat_model.specs.declared.table.Table.{Table}
 use Rattle.flat_model.specs.Models.{IsModel}
+use Rattle.flat_model.specs.Setting.{Setting}
 use Rattle.flat_model.specs.Tables.{IsTableOf}
+use Rattle.flat_model.specs.Uses as uses
+use Rattle.eq_order.specs.Order.{use_of}
+use Rattle.moment_theory.specs.Free.{IsOrdered}
 use Rattle.trace_print.specs.Modes.{flat_text, clocks_text}
 use Rattle.class_scopes.specs.Reached.{chosen_by}
 use Rattle.flat_limits.proofs.Limits.{flat_limits}
 use Rattle.typed_model.proofs.Models.{typed_is_model}
-use Rattle.command_answer.specs.Actions.{model_limit, table_limit, model_of, table_of, in_mode, actions, told_files, OneAnswerLaw}
+use Rattle.command_answer.specs.Actions.{model_limit, table_limit, source_in, model_of, table_of, setting_of, in_mode, actions, told_files, OneAnswerLaw}
 use Rattle.command_answer.specs.Layers.{lexed, parsed, flattened, typed, tabled, untabled, ordered, Orders}
-use Rattle.command_answer.specs.Stages.{Stage, ◌>>=◌, layer, printed}
+use Rattle.command_answer.specs.Stages.{Stage, ◌>>=◌, always, layer, printed}
 use Rattle.command_answer.proofs.Clocks.{clocking_one, is_answered}
 use Rattle.command_answer.proofs.Joined.{IsOnly, IsOne, both_one, end_one, always_one}
 use Rattle.command_answer.proofs.Models.{flattened_one, typed_one}
 use Rattle.command_answer.proofs.Orders.{ordered_one, counted_one, timed_one}
-use Rattle.command_answer.proofs.Running.{run_ordered, runs_one}
+use Rattle.command_answer.proofs.Running.{run_ordered, runs_one, stresses_one}
 use Rattle.command_answer.proofs.Tables.{tabled_one, untabled_one, file_table, no_file_table}
 use Rattle.command_answer.proofs.Texts.{asked_one, few_one, lexed_one, parsed_one}
 
@@ -30,9 +34,16 @@ text_one : (text : List ℕ) → IsOnly (λ answer. answer ≡ printed text)
 text_one text a b e f = e ∙ sym f
 
 module _ (reads : List ℕ → Stage (List ℕ)) (files : (name : List ℕ) → IsOne (reads name)) where
+  source_one : (mode : Mode) (name : List ℕ) → IsOne (source_in reads mode name)
+  unfolding source_in
+  source_one Run name = files name
+  source_one Flat name = files name
+  source_one Clocks name = files name
+  source_one (Stress members) name = always_one _ (λ x y p q. p ∙ sym q)
+
   model_one : (c : Choice) → IsOne (model_of reads c)
   unfolding model_of
-  model_one c = both_one _ _ (files c.model) (λ text m. both_one _ _ (few_one model_limit place.Model text) (λ _ m. both_one _ _ (lexed_one text) (λ tokens m.
+  model_one c = both_one _ _ (source_one c.mode c.model) (λ text m. both_one _ _ (few_one model_limit place.Model text) (λ _ m. both_one _ _ (lexed_one text) (λ tokens m.
       both_one _ _ (parsed_one text tokens) (λ tree m. both_one _ _ (flattened_one text tree c.class) (λ raw m. typed_one raw)))))
 
   -- what is made is a model
@@ -56,14 +67,25 @@ module _ (reads : List ℕ → Stage (List ℕ)) (files : (name : List ℕ) → 
   unfolding ordered layer
   is_order flat clocking order m = m
 
+  setting_one : (c : Choice) (flat : FlatModel) → IsModel flat → IsOne (setting_of reads c flat)
+  unfolding setting_of
+  setting_one c flat is = both_one _ _ (clocking_one flat is) (λ clocking m. both_one _ _ (ordered_one flat clocking) (λ order n.
+      both_one _ _ (table_one flat c.table is) (λ table k. both_one _ _ (counted_one clocking table c.stop) (λ _ l. both_one _ _ (timed_one clocking table c.stop) (λ instants h.
+      always_one _ (λ x y p q. p ∙ sym q))))))
+
+  -- its run has a free order
+  setting_ordered : (c : Choice) (flat : FlatModel) (s : Setting) → IsModel flat → (setting_of reads c flat).makes s → (used : List uses.Use) × (free : List uses.Use) × IsOrdered s used free
+  unfolding setting_of always ◌>>=◌
+  setting_ordered c flat s is (clocking, m, (order, n, (table, k, (x, l, (instants, h, same))))) =
+      let free = run_ordered flat clocking table instants is (is_answered flat clocking m) (is_table flat c.table table k) order (is_order flat clocking order n) in
+      subst (λ z. (used : List uses.Use) × (free : List uses.Use) × IsOrdered z used free) (sym same) (map use_of order, free.0, free.1)
+
   mode_one : (mode : Mode) (c : Choice) (flat : FlatModel) → IsModel flat → IsOne (in_mode reads mode c flat)
   unfolding in_mode
   mode_one Flat c flat is = end_one _ (text_one (flat_text flat))
   mode_one Clocks c flat is = both_one _ _ (clocking_one flat is) (λ clocking m. end_one _ (text_one (clocks_text flat clocking)))
-  mode_one Run c flat is = both_one _ _ (clocking_one flat is) (λ clocking m. both_one _ _ (ordered_one flat clocking) (λ order n.
-      both_one _ _ (table_one flat c.table is) (λ table k. both_one _ _ (counted_one clocking table c.stop) (λ _ l. both_one _ _ (timed_one clocking table c.stop) (λ instants h.
-      let free = run_ordered flat clocking table instants is (is_answered flat clocking m) (is_table flat c.table table k) order (is_order flat clocking order n) in
-      end_one _ (λ a b p q. runs_one _ _ free.0 free.1 a b p.0 q.0))))))
+  mode_one Run c flat is = both_one _ _ (setting_one c flat is) (λ s m. let (used, free, are) = setting_ordered c flat s is m in end_one _ (λ a b p q. runs_one s used free are a b p.0 q.0))
+  mode_one (Stress members) c flat is = both_one _ _ (setting_one c flat is) (λ s m. let (used, free, are) = setting_ordered c flat s is m in end_one _ (stresses_one s used free are members))
 
   pub actions_one : (words : List (List ℕ)) → IsOne (actions reads words)
   unfolding actions

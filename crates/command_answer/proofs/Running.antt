@@ -10,7 +10,7 @@ use Rattle.flat_model.specs.Models.{IsModel}
 use Rattle.flat_model.specs.Runs.{IsWholeRun, IsFaultedRun}
 use Rattle.flat_model.specs.Setting.{Setting}
 use Rattle.flat_model.specs.Tables.{IsTableOf}
-use Rattle.flat_model.specs.Trace.{trace_text}
+use Rattle.flat_model.specs.Trace.{columns_of, trace_text}
 use Rattle.flat_model.specs.Uses.{Use}
 use Rattle.clock_sides.specs.Laws.{IsAnswered}
 use Rattle.clock_sides.proofs.Whole.{runnable}
@@ -21,14 +21,16 @@ use Rattle.moment_theory.specs.Division.{ArePartitionsBelow, moment_order}
 use Rattle.moment_theory.specs.Free.{IsOrdered}
 use Rattle.moment_theory.proofs.Answered.{one_run, moment_within}
 use Rattle.moment_theory.proofs.Divided.{order_free, order_same}
-use Rattle.moment_theory.proofs.Settled.{whole_none}
+use Rattle.moment_theory.proofs.Settled.{only_one, whole_none}
 use Rattle.moment_theory.proofs.Unheld.{unheld_pure}
 use Rattle.site_ready.proofs.Deciding.{there_is}
 use Rattle.site_ready.proofs.Unheld.{unheld}
-use Rattle.command_answer.specs.declared.status.Status.TheVariants.{Done}
-use Rattle.command_answer.specs.Actions.{Runs, RunsAlone}
+use Rattle.stress_sums.proofs.Alike.{sums_same}
+use Rattle.stress_sums.specs.Sums.{sums_text, stress_lines}
+use Rattle.command_answer.specs.declared.status.Status.TheVariants.{Done, Faulted}
+use Rattle.command_answer.specs.Actions.{Runs, RunsAlone, Stresses}
 use Rattle.command_answer.specs.Layers.{Orders}
-use Rattle.command_answer.specs.Stages.{Answer}
+use Rattle.command_answer.specs.Stages.{Answer, printed}
 
 -- a number above all of a list
 abbrev bound : List ℕ → ℕ
@@ -99,11 +101,29 @@ module _ (s : Setting) (uses free : List Use) (is : IsOrdered s uses free) where
     },
   )
 
--- what a run of a model, its clocking and its table answers is alone
-pub run_alone : (flat : FlatModel) (clocking : Clocking) (table : Table) (instants : List Ratio) → IsModel flat → IsAnswered flat clocking → IsTableOf flat table
-    → (order : List answered.Use) → Orders flat clocking (Ok order)
-    → (answer : Answer) → Runs (record { model = flat; clocking = clocking; table = table; instants = instants }) answer
-    → RunsAlone (record { model = flat; clocking = clocking; table = table; instants = instants }) answer
-run_alone flat clocking table instants is_model is is_table order orders =
-    let free = run_ordered flat clocking table instants is_model is is_table order orders in
-    runs_alone (record { model = flat; clocking = clocking; table = table; instants = instants }) (map use_of order) free.0 free.1
+  -- and so are the sums of its rows, or its fault
+  pub stress_done : (members : ℕ) (S : Assignment) → Meets s S (length s.instants) → Stresses members s (printed (stress_lines members s.model.names S (length s.instants)))
+  stress_done members S meets =
+      let run : Answer = record { status = Done; out = trace_text s.model.names S s.instants; err = [] } in
+      record {
+        run = run;
+        runs = runs_alone run (inl (refl, record { assignment = S; meets = meets; out_is = refl; err_is = refl }));
+        done = λ ended T here. ap (λ sums. printed (sums_text members sums)) (sums_same (columns_of s.model.names) S T (length s.instants)
+            (λ x m some le. only_one s uses free is S T (length s.instants) (omega arith) meets here x m (omega (arith, le))));
+        faulted = λ is. absurd cc;
+      }
+
+  pub stress_faulted : (members : ℕ) (text line : List ℕ) → IsFaultedRun s text line → Stresses members s (record { status = Faulted; out = []; err = line })
+  stress_faulted members text line fault =
+      let run : Answer = record { status = Faulted; out = text; err = line } in
+      record { run = run; runs = runs_alone run (inr (refl, fault)); done = λ is. absurd cc; faulted = λ is. refl }
+
+  pub stresses_one : (members : ℕ) (a b : Answer) → Stresses members s a → Stresses members s b → a ≡ b
+  stresses_one members a b p q = by_run p.runs.0
+    where
+      same : p.run ≡ q.run
+      same = runs_one p.run q.run p.runs.0 q.runs.0
+
+      by_run : Runs s p.run → a ≡ b
+      by_run (inl (is, whole)) = p.done is whole.assignment whole.meets ∙ sym (q.done (ap (λ (r : Answer). r.status) (sym same) ∙ is) whole.assignment whole.meets)
+      by_run (inr (is, fault)) = p.faulted is ∙ ap (λ (r : Answer). record { status = Faulted; out = []; err = r.err }) same ∙ sym (q.faulted (ap (λ (r : Answer). r.status) (sym same) ∙ is))

@@ -1,10 +1,10 @@
 -- The answer of a command: what it does, stage by stage, up to the one that ends it. This project's own.
-use Rattle.std.specs.Prelude.{◌≡◌, ℕ, ◌≤◌, ◌⊎◌, List, length, Option, Some, None}
+use Rattle.std.specs.Prelude.{◌≡◌, ℕ, ◌≤◌, ◌⊎◌, List, [], length, Option, Some, None}
 use Rattle.outside_io.specs.Files.{Told, File}
 use Rattle.sync_values.specs.declared.value.Fail.{Fail}
 use Rattle.command_words.specs.Choice.{Choice}
 use Rattle.command_words.specs.declared.command.Mode.{Mode}
-use Rattle.command_words.specs.declared.command.Mode.TheVariants.{Run, Flat, Clocks}
+use Rattle.command_words.specs.declared.command.Mode.TheVariants.{Run, Flat, Clocks, Stress}
 use Rattle.flat_model.specs.declared.model.FlatModel.{FlatModel}
 use Rattle.flat_model.specs.declared.clock.Clocking.{Clocking}
 use Rattle.flat_model.specs.declared.fault.FaultPlace.{FaultPlace}
@@ -17,6 +17,8 @@ use Rattle.flat_model.specs.Runs.{IsWholeRun, IsFaultedRun}
 use Rattle.flat_model.specs.Setting.{Setting}
 use Rattle.flat_model.specs.Trace.{trace_text}
 use Rattle.trace_print.specs.Modes.{flat_text, clocks_text}
+use Rattle.stress_sums.specs.Sums.{stress_lines}
+use Rattle.stress_text.specs.Text.{stress_text}
 use Rattle.command_answer.specs.declared.status.Status.TheVariants.{Done, Faulted}
 use Rattle.command_answer.specs.Layers.{asked, few, lexed, parsed, flattened, typed, termed, classed, solved, checked, ordered, tabled, untabled, counted, timed}
 use Rattle.command_answer.specs.Stages.{Answer, Stage, ◌>>=◌, ◌>>◌, always, ends_with, printed}
@@ -42,6 +44,20 @@ pub record IsAlone (s : Setting) (answer : Answer) : Type 0 where
 abbrev pub RunsAlone : Setting → Answer → Type 0
 RunsAlone s answer = Runs s answer × IsAlone s answer
 
+-- the answer of a stress is that of its run, with what the rows add up to in their place
+pub record Stresses (members : ℕ) (s : Setting) (answer : Answer) : Type 0 where
+  pub run : Answer
+  pub runs : RunsAlone s run
+  -- of a run to its last moment the lines are printed, and each assignment that meets the model gives the same
+  pub done : run.status ≡ Done → (S : Assignment) → Meets s S (length s.instants) → answer ≡ printed (stress_lines members s.model.names S (length s.instants))
+  -- a fault is told alone
+  pub faulted : run.status ≡ Faulted → answer ≡ record { status = Faulted; out = []; err = run.err }
+
+-- the file that MODEL names; the stress model is in none
+abbrev pub model_file : Mode → List ℕ → Option (List ℕ)
+model_file (Stress members) model = None
+model_file mode model = Some model
+
 -- the only clocking of a model
 unfoldable pub clocking_of : FlatModel → Stage Clocking
 clocking_of flat = do
@@ -51,10 +67,15 @@ clocking_of flat = do
   checked flat terms classes grids
 
 module _ (reads : List ℕ → Stage (List ℕ)) where
+  -- the text of a model, that of a file or that of the stress model
+  unfoldable pub source_in : Mode → List ℕ → Stage (List ℕ)
+  source_in (Stress members) model = always (λ text. text ≡ stress_text members)
+  source_in mode model = reads model
+
   -- the flat model that a command asks for
   unfoldable pub model_of : Choice → Stage FlatModel
   model_of c = do
-    text ← reads c.model
+    text ← source_in c.mode c.model
     few model_limit place.Model text
     tokens ← lexed text
     tree ← parsed text tokens
@@ -69,6 +90,16 @@ module _ (reads : List ℕ → Stage (List ℕ)) where
     few table_limit place.Table bytes
     tabled flat bytes
 
+  -- the setting of its run
+  unfoldable pub setting_of : Choice → FlatModel → Stage Setting
+  setting_of c flat = do
+    clocking ← clocking_of flat
+    order ← ordered flat clocking
+    table ← table_of flat c.table
+    counted clocking table c.stop
+    instants ← timed clocking table c.stop
+    always (λ s. s ≡ record { model = flat; clocking = clocking; table = table; instants = instants })
+
   -- what is done with it in each mode
   unfoldable pub in_mode : Mode → Choice → FlatModel → Stage (Unit {0})
   in_mode Flat c flat = ends_with (λ answer. answer ≡ printed (flat_text flat))
@@ -76,12 +107,11 @@ module _ (reads : List ℕ → Stage (List ℕ)) where
     clocking ← clocking_of flat
     ends_with (λ answer. answer ≡ printed (clocks_text flat clocking))
   in_mode Run c flat = do
-    clocking ← clocking_of flat
-    order ← ordered flat clocking
-    table ← table_of flat c.table
-    counted clocking table c.stop
-    instants ← timed clocking table c.stop
-    ends_with (RunsAlone (record { model = flat; clocking = clocking; table = table; instants = instants }))
+    s ← setting_of c flat
+    ends_with (RunsAlone s)
+  in_mode (Stress members) c flat = do
+    s ← setting_of c flat
+    ends_with (Stresses members s)
 
   -- the order of actions
   unfoldable pub actions : List (List ℕ) → Stage (Unit {0})

@@ -8,7 +8,7 @@ use Rattle.command_words.specs.Choice.{Choice}
 use Rattle.command_words.specs.declared.command.UsageFault.{UsageFault}
 use Rattle.command_answer.specs.declared.status.Status.{Status}
 use Rattle.command_answer.specs.declared.status.Status.TheVariants.{Usage, ReadFault, WriteFault, NoMemory}
-use Rattle.command_answer.specs.Actions.{actions, IsAnswer}
+use Rattle.command_answer.specs.Actions.{actions, model_file, IsAnswer}
 use Rattle.command_answer.specs.Stages.{Answer, Stage}
 
 -- the text of a sink, where it is told, and its count of faults, before and after a call
@@ -85,7 +85,7 @@ pub data EndsWith (Right : Answer → Type 0) (o : Outside) (status : Status) : 
 module _ (words : List (List ℕ)) (o : Outside) where
   -- the words name this file as MODEL or as FILE
   abbrev pub IsNamed : List ℕ → Type 0
-  IsNamed name = (c : Choice) × IsCommand words c × ((name ≡ c.model) ⊎ (c.table ≡ Some name))
+  IsNamed name = (c : Choice) × IsCommand words c × ((model_file c.mode c.model ≡ Some name) ⊎ (c.table ≡ Some name))
 
   -- no count rose
   pub record IsQuiet : Type 0 where

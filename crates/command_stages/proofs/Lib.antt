@@ -1,10 +1,11 @@
-mod Spots
-pub mod Halting
-pub mod Models
 mod Clocked
+pub mod Halting
 mod Layered
+pub mod Models
 mod Placed
 mod Printing
 mod Short
+mod Sources
+mod Spots
 mod Tabled
 mod Texts

@@ -8,7 +8,7 @@ use Rattle.flat_model.specs.declared.place.Place.TheVariants as place
 use Rattle.class_scopes.specs.Reached.{chosen_by}
 use Rattle.flat_answer.specs.declared.end.FlattenEnd.{FlattenEnd}
 use Rattle.flat_answer.specs.Answers as flattening
-use Rattle.command_answer.specs.Actions.{model_of, model_limit}
+use Rattle.command_answer.specs.Actions.{source_in, model_of, model_limit}
 use Rattle.command_answer.specs.Layers.{few, flattened, typed}
 use Rattle.command_answer.specs.Stages.{Stage, ◌>>=◌, always, layer}
 use Rattle.command_stages.specs.declared.end.End.{End}
@@ -22,7 +22,7 @@ Flattens text tree class result = flattening.Answers text tree.classes (chosen_b
 
 module _ (reads : List ℕ → Stage (List ℕ)) (c : Choice) where
   -- the file ends the command
-  pub model_unread : (end : End) → Halts (file_of reads model_limit place.Model c.model) end → Halts (model_of reads c) end
+  pub model_unread : (end : End) → Halts (file_of (source_in reads c.mode) model_limit place.Model c.model) end → Halts (model_of reads c) end
   unfolding model_of file_of few always ◌>>=◌
   model_unread end halts answer is = elim (halts answer is) [
     | inl e ↦ inl e
@@ -31,7 +31,7 @@ module _ (reads : List ℕ → Stage (List ℕ)) (c : Choice) where
   ]
 
   -- its text was read
-  module _ (text : List ℕ) (read : (file_of reads model_limit place.Model c.model).makes text) where
+  module _ (text : List ℕ) (read : (file_of (source_in reads c.mode) model_limit place.Model c.model).makes text) where
     -- it has no tree
     pub model_unspelled : (end : End) → Halts (tree_of text) end → Halts (model_of reads c) end
     unfolding model_of file_of tree_of few always ◌>>=◌

@@ -1,10 +1,11 @@
 -- Parts of the chain of a command that one function does. This project's own.
-use Rattle.std.specs.Prelude.{◌≡◌, ℕ, List}
+use Rattle.std.specs.Prelude.{◌≡◌, ◌≤◌, ℕ, List}
 use Rattle.mo_parser.specs.declared.tree.Tree.{Tree}
 use Rattle.flat_model.specs.declared.model.FlatModel.{FlatModel}
 use Rattle.flat_model.specs.declared.place.Place.{Place}
 use Rattle.command_words.specs.Choice.{Choice}
 use Rattle.command_words.specs.declared.command.Mode.{Mode}
+use Rattle.command_words.specs.declared.command.Mode.TheVariants.{Stress}
 use Rattle.command_answer.specs.Actions.{in_mode}
 use Rattle.command_answer.specs.Calls.{Outside, reads_in}
 use Rattle.command_answer.specs.Layers.{few, lexed, parsed}
@@ -18,6 +19,11 @@ file_of reads limit at name = do
   bytes ← reads name
   few limit at bytes
   always (λ text. text ≡ bytes)
+
+-- the stress model has at most 1,000 members
+abbrev pub HasFewMembers : Mode → Type 0
+HasFewMembers (Stress members) = members ≤ 1000
+HasFewMembers mode = Unit {0}
 
 -- the tree of a text
 unfoldable pub tree_of : List ℕ → Stage Tree

@@ -18,6 +18,6 @@ pub use clocking::clocking_of;
 pub use end::End;
 pub use modes::{print_clocks, print_flat};
 pub use running::{order_of, plan_of};
-pub use source::{text_of, tree_of, typed_of};
+pub use source::{source_of, text_of, tree_of, typed_of};
 pub use tabling::table_of;
 pub use wording::command_of;

@@ -3,24 +3,27 @@ ghost use Rattle.flat_model.specs.declared.place.Place.TheVariants.{Model};
 ghost use Rattle.flat_model.specs.Models.{IsModel};
 ghost use Rattle.flat_model.specs.RawModels.{IsRawModel};
 ghost use Rattle.flat_answer.specs.Places.{place_at};
-ghost use Rattle.command_answer.specs.Actions.{model_limit};
+ghost use Rattle.stress_text.specs.Text as stress;
+ghost use Rattle.command_answer.specs.Actions.{model_limit, source_in};
 ghost use Rattle.command_answer.specs.Calls.{Outside, reads_in};
 ghost use Rattle.command_answer.specs.Layers.{typed};
-ghost use Rattle.command_stages.specs.declared.end.End.TheVariants.{Refused};
+ghost use Rattle.command_stages.specs.declared.end.End.TheVariants.{NoMemory, Refused};
 ghost use Rattle.command_stages.specs.Ends.{Halts, IsPrintable};
 ghost use Rattle.command_stages.specs.Reading.{IsStepOf, KeepsShelf};
-ghost use Rattle.command_stages.specs.Segments.{file_of, tree_of};
+ghost use Rattle.command_stages.specs.Segments.{HasFewMembers, file_of, tree_of};
 
 use crate::codes::{lexical_code, syntax_code};
 use crate::end::End;
 use crate::place::place_at;
 use crate::reading::read_file;
+use command_words::Mode;
 use flat_model::{FlatModel, Place, RawModel};
 use flat_types::typed;
 use mo_lexer::{LexEnd, lex};
 use mo_parser::{ParseEnd, Tree, parse};
 use outside_io::Shelf;
 use std::alloc::Global;
+use stress_text::stress_text;
 use trace_print::Code;
 
 /// The most bytes of a model.
@@ -47,6 +50,44 @@ pub fn text_of<'a, S: Shelf>(
     ensures shelf { KeepsShelf (S.held shelf.old) (S.held shelf.new) (S.gives_empty shelf.old) (S.gives_empty shelf.new) (S.faults shelf.old) (S.faults shelf.new) }
 {
     read_file(alloc, shelf, name, MODEL_LIMIT, Place::Model)
+}
+
+/// The text of the stress model of so many members.
+fn generated(alloc: Global, members: u64) -> Result<Vec<u8>, End<'static>>
+    requires { members ≤ 1000 }
+    ensures text { IfOk result (λ bytes. bytes.items ≡ stress.stress_text members) }
+    ensures few { IfOk result (λ bytes. length bytes.items ≤ model_limit) }
+    ensures ended { IfErr result (λ end. end ≡ NoMemory) }
+{
+    Ok(stress_text(alloc, members)?)
+}
+
+/// The text of the model that a command names: that of a file, of at most 1,048,576 bytes, or that of the stress model.
+///
+/// # Errors
+///
+/// Those of `text_of` where the model is in a file, and else want of memory alone.
+///
+/// Source: this project's own.
+pub fn source_of<'a, S: Shelf>(
+    alloc: Global,
+    shelf: &mut S,
+    mode: Mode,
+    name: &'a str,
+) -> Result<Vec<u8>, End<'a>>
+    requires { HasFewMembers mode }
+    ensures made { (o : Outside) → IsStepOf o (S.held shelf.old) (S.gives_empty shelf.old) (S.faults shelf.old) (S.faults shelf.new) →
+        IfOk result (λ bytes. (file_of (source_in (reads_in o) mode) model_limit Model name.entry.now).makes bytes.items) }
+    ensures few { IfOk result (λ bytes. length bytes.items ≤ model_limit) }
+    ensures ended { (o : Outside) → IsStepOf o (S.held shelf.old) (S.gives_empty shelf.old) (S.faults shelf.old) (S.faults shelf.new) →
+        IfErr result (Halts (file_of (source_in (reads_in o) mode) model_limit Model name.entry.now)) }
+    ensures short { IfErr result IsPrintable }
+    ensures shelf { KeepsShelf (S.held shelf.old) (S.held shelf.new) (S.gives_empty shelf.old) (S.gives_empty shelf.new) (S.faults shelf.old) (S.faults shelf.new) }
+{
+    match mode {
+        Mode::Stress(members) => Ok(generated(alloc, members)?),
+        _ => text_of(alloc, shelf, name),
+    }
 }
 
 /// A rule that is broken at a byte of a text.

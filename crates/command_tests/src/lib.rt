@@ -21,4 +21,6 @@ mod refusals;
 #[cfg(test)]
 mod runs;
 #[cfg(test)]
+mod stress;
+#[cfg(test)]
 mod workers;

@@ -1,3 +1,4 @@
 pub mod GivenValues
+mod Modes
 pub mod OneChoice
 pub mod StopTexts

@@ -1,5 +1,5 @@
 -- One choice of the values, and one misfit.
-use Rattle.std.proofs.Common.{◌≡◌, refl, sym, ◌∙◌, ap₂, subst, ℕ, ◌<◌, List, Option, Ok, Err, ap}
+use Rattle.std.proofs.Common.{◌≡◌, refl, sym, ◌∙◌, ap₂, subst, ℕ, ◌<◌, List, Option, Ok, Err, ap, codes, get_or, arith}
 use Rattle.std.proofs.Props.{props}
 use Rattle.std.specs.Int.{IsGcd}
 use Rattle.rational_time.specs.declared.ratio.Ratio.{Ratio}
@@ -7,12 +7,12 @@ use Rattle.rational_time.specs.Fraction.{IsFraction}
 use Rattle.rational_time.proofs.Fractions.{IsLowest-ratio, IsLowest-unique}
 use Rattle.rational_time.proofs.TimeTexts.{WritesTime-unique, WritesTime-positive}
 use Rattle.command_words.specs.declared.command.Mode.{Mode}
-use Rattle.command_words.specs.declared.command.Mode.TheVariants.{Run, Flat, Clocks}
+use Rattle.command_words.specs.declared.command.Mode.TheVariants.{Run, Flat, Clocks, Stress}
 use Rattle.command_words.specs.declared.command.UsageFault.{UsageFault}
 use Rattle.command_words.specs.Answer.{IsCommand, IsUsage, OneAnswer}
 use Rattle.command_words.specs.Answer.IsUsage.{not_taken, no_choice}
-use Rattle.command_words.specs.Choice.{Choice, IsChoice, IsMisfit, IsStop, Texts, mode_name}
-use Rattle.command_words.specs.Choice.IsMisfit.{no_mode, no_stop, no_workers}
+use Rattle.command_words.specs.Choice.{Choice, IsChoice, IsMisfit, IsStop, IsMembers, IsMode, Texts, mode_name}
+use Rattle.command_words.specs.Choice.IsMisfit.{no_mode, no_stop, no_workers, no_members}
 use Rattle.command_words.specs.Words.{texts_of}
 
 -- fractions of equal parts are one
@@ -42,17 +42,42 @@ one_stop text a b p q =
     let parts = IsLowest-unique p.num p.den a.num a.den b.num b.den (WritesTime-positive text p.num p.den p.writes) (IsLowest-ratio a p.num p.den p.value) (IsLowest-ratio b p.num p.den value) in
     one_ratio a b parts.0 parts.1
 
+-- two texts that are equal begin alike
+other_initial : (a b : List ℕ) → a ≡ b → (get_or a 0 0 ≡ get_or b 0 0 → ⊥) → ⊥
+other_initial a b e apart = apart (ap (λ t. get_or t 0 0) e)
+
 -- a name is of one mode
-one_mode : (a b : Mode) → mode_name a ≡ mode_name b → a ≡ b
-one_mode Run Run e = refl
-one_mode Run Flat e = absurd cc
-one_mode Run Clocks e = absurd cc
-one_mode Flat Run e = absurd cc
-one_mode Flat Flat e = refl
-one_mode Flat Clocks e = absurd cc
-one_mode Clocks Run e = absurd cc
-one_mode Clocks Flat e = absurd cc
-one_mode Clocks Clocks e = refl
+one_mode : (name model : List ℕ) (a b : Mode) → IsMode name model a → IsMode name model b → a ≡ b
+one_mode name model Run Run p q = refl
+one_mode name model Run Flat p q = absurd (other_initial _ _ (sym p ∙ q) (λ same. omega (arith, same)))
+one_mode name model Run Clocks p q = absurd (other_initial _ _ (sym p ∙ q) (λ same. omega (arith, same)))
+one_mode name model Run (Stress n) p q = absurd (other_initial _ _ (sym p ∙ q.0) (λ same. omega (arith, same)))
+one_mode name model Flat Run p q = absurd (other_initial _ _ (sym p ∙ q) (λ same. omega (arith, same)))
+one_mode name model Flat Flat p q = refl
+one_mode name model Flat Clocks p q = absurd (other_initial _ _ (sym p ∙ q) (λ same. omega (arith, same)))
+one_mode name model Flat (Stress n) p q = absurd (other_initial _ _ (sym p ∙ q.0) (λ same. omega (arith, same)))
+one_mode name model Clocks Run p q = absurd (other_initial _ _ (sym p ∙ q) (λ same. omega (arith, same)))
+one_mode name model Clocks Flat p q = absurd (other_initial _ _ (sym p ∙ q) (λ same. omega (arith, same)))
+one_mode name model Clocks Clocks p q = refl
+one_mode name model Clocks (Stress n) p q = absurd (other_initial _ _ (sym p ∙ q.0) (λ same. omega (arith, same)))
+one_mode name model (Stress m) Run p q = absurd (other_initial _ _ (sym p.0 ∙ q) (λ same. omega (arith, same)))
+one_mode name model (Stress m) Flat p q = absurd (other_initial _ _ (sym p.0 ∙ q) (λ same. omega (arith, same)))
+one_mode name model (Stress m) Clocks p q = absurd (other_initial _ _ (sym p.0 ∙ q) (λ same. omega (arith, same)))
+one_mode name model (Stress m) (Stress n) p q = ap Stress (p.1.value ∙ sym q.1.value)
+
+-- and it is its name
+named : (name model : List ℕ) (mode : Mode) → IsMode name model mode → name ≡ mode_name mode
+named name model Run p = p
+named name model Flat p = p
+named name model Clocks p = p
+named name model (Stress n) p = p.0
+
+-- the mode of the stress model has members
+has_members : (name model : List ℕ) (mode : Mode) → IsMode name model mode → name ≡ codes "stress" → (n : ℕ) × IsMembers model n
+has_members name model Run p is = absurd (other_initial _ _ (sym p ∙ is) (λ same. omega (arith, same)))
+has_members name model Flat p is = absurd (other_initial _ _ (sym p ∙ is) (λ same. omega (arith, same)))
+has_members name model Clocks p is = absurd (other_initial _ _ (sym p ∙ is) (λ same. omega (arith, same)))
+has_members name model (Stress n) p is = (n, p.1)
 
 -- choices of equal parts are one
 same_choices : (a b : Choice) → a.model ≡ b.model → a.stop ≡ b.stop → a.table ≡ b.table → a.class ≡ b.class → a.workers ≡ b.workers → a.mode ≡ b.mode → a ≡ b
@@ -70,25 +95,33 @@ one_choice texts a b p q = same_choices a b
     (p.table ∙ sym q.table)
     (p.class ∙ sym q.class)
     (p.workers.value ∙ sym q.workers.value)
-    (one_mode a.mode b.mode (sym p.mode ∙ q.mode))
+    (one_mode texts.mode texts.model a.mode b.mode p.mode q.mode)
 
 -- values that mean a choice are no misfit
 pub fits : (texts : Texts) (choice : Choice) (fault : UsageFault) → IsChoice texts choice → IsMisfit texts fault → ⊥
-fits texts choice fault p (no_mode none is) = none choice.mode p.mode
-fits texts choice fault p (no_stop mode named none is) = none choice.stop p.stop
-fits texts choice fault p (no_workers mode named stop stops none is) = none choice.workers p.workers
+fits texts choice fault p (no_mode none is) = none choice.mode (named texts.mode texts.model choice.mode p.mode)
+fits texts choice fault p (no_stop mode is_named none is) = none choice.stop p.stop
+fits texts choice fault p (no_workers mode is_named stop stops none is) = none choice.workers p.workers
+fits texts choice fault p (no_members is_stress stop stops workers work none is) = let (n, has) = has_members texts.mode texts.model choice.mode p.mode is_stress in none n has
 
 -- values have one misfit at most
 pub one_misfit : (texts : Texts) (a b : UsageFault) → IsMisfit texts a → IsMisfit texts b → a ≡ b
 one_misfit texts a b (no_mode none is) (no_mode none' is') = is ∙ sym is'
-one_misfit texts a b (no_mode none is) (no_stop mode named none' is') = absurd (none mode named)
-one_misfit texts a b (no_mode none is) (no_workers mode named stop stops none' is') = absurd (none mode named)
-one_misfit texts a b (no_stop mode named none is) (no_mode none' is') = absurd (none' mode named)
-one_misfit texts a b (no_stop mode named none is) (no_stop mode' named' none' is') = is ∙ sym is'
-one_misfit texts a b (no_stop mode named none is) (no_workers mode' named' stop stops none' is') = absurd (none stop stops)
-one_misfit texts a b (no_workers mode named stop stops none is) (no_mode none' is') = absurd (none' mode named)
-one_misfit texts a b (no_workers mode named stop stops none is) (no_stop mode' named' none' is') = absurd (none' stop stops)
-one_misfit texts a b (no_workers mode named stop stops none is) (no_workers mode' named' stop' stops' none' is') = is ∙ sym is'
+one_misfit texts a b (no_mode none is) (no_stop mode' at' none' is') = absurd (none mode' at')
+one_misfit texts a b (no_mode none is) (no_workers mode' at' stop' stops' none' is') = absurd (none mode' at')
+one_misfit texts a b (no_mode none is) (no_members at' stop' stops' workers' work' none' is') = absurd (none (Stress 0) at')
+one_misfit texts a b (no_stop mode at none is) (no_mode none' is') = absurd (none' mode at)
+one_misfit texts a b (no_stop mode at none is) (no_stop mode' at' none' is') = is ∙ sym is'
+one_misfit texts a b (no_stop mode at none is) (no_workers mode' at' stop' stops' none' is') = absurd (none stop' stops')
+one_misfit texts a b (no_stop mode at none is) (no_members at' stop' stops' workers' work' none' is') = absurd (none stop' stops')
+one_misfit texts a b (no_workers mode at stop stops none is) (no_mode none' is') = absurd (none' mode at)
+one_misfit texts a b (no_workers mode at stop stops none is) (no_stop mode' at' none' is') = absurd (none' stop stops)
+one_misfit texts a b (no_workers mode at stop stops none is) (no_workers mode' at' stop' stops' none' is') = is ∙ sym is'
+one_misfit texts a b (no_workers mode at stop stops none is) (no_members at' stop' stops' workers' work' none' is') = absurd (none workers' work')
+one_misfit texts a b (no_members at stop stops workers work none is) (no_mode none' is') = absurd (none' (Stress 0) at)
+one_misfit texts a b (no_members at stop stops workers work none is) (no_stop mode' at' none' is') = absurd (none' stop stops)
+one_misfit texts a b (no_members at stop stops workers work none is) (no_workers mode' at' stop' stops' none' is') = absurd (none' workers work)
+one_misfit texts a b (no_members at stop stops workers work none is) (no_members at' stop' stops' workers' work' none' is') = is ∙ sym is'
 
 -- a command is not refused
 not_both : (words : List (List ℕ)) (choice : Choice) (fault : UsageFault) → IsCommand words choice → IsUsage words fault → ⊥

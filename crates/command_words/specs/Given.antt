@@ -1,11 +1,13 @@
 -- What a parse of the words gives.
-use Rattle.std.specs.Prelude.{◌≡◌, List, [], codes, option_map, unwrap_or}
+use Rattle.std.specs.Prelude.{◌≡◌, ℕ, List, [], codes, option_map, unwrap_or}
 use Rattle.std.specs.Borrow.{Bor}
 use Rattle.clap.specs.Words.{Text, first_value}
 use Rattle.clap.specs.declared.parser.matches.Found.{Found}
 use Rattle.command_words.specs.declared.arguments.Given.{Given}
 use Rattle.command_words.specs.declared.arguments.GivenEnd.{GivenEnd}
 use Rattle.command_words.specs.declared.arguments.GivenEnd.TheVariants.{Untaken, NoMemory}
+use Rattle.command_words.specs.declared.mode.ModeWord.{ModeWord}
+use Rattle.command_words.specs.declared.mode.ModeWord.TheVariants as word
 use Rattle.command_words.specs.Choice.{Texts}
 use Rattle.command_words.specs.Words.{AreTaken}
 
@@ -33,3 +35,10 @@ pub record IsFound (found : Found) (given : Given) : Type 0 where
 abbrev pub IsUntaken : List Text → GivenEnd → Type 0
 IsUntaken words Untaken = AreTaken words → ⊥
 IsUntaken words NoMemory = Unit {0}
+
+-- the text of the word of a mode
+abbrev pub word_of : ModeWord → List ℕ
+word_of word.Run = codes "run"
+word_of word.Flat = codes "flat"
+word_of word.Clocks = codes "clocks"
+word_of word.Stress = codes "stress"

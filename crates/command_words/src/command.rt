@@ -12,12 +12,14 @@ pub enum Mode {
     Flat,
     /// The text of the clocks.
     Clocks,
+    /// What the run of the stress model of so many members, 1 to 1,000, adds up to.
+    Stress(u64),
 }
 
 /// What a command asks for.
 #[derive(Drop)]
 pub struct Command<'a> {
-    /// The name of the file of the model.
+    /// The name of the file of the model; in the mode of the stress model no file, but its number of members.
     pub model: &'a str,
     /// The stop in seconds, below 2^20.
     pub stop: Ratio,
@@ -42,6 +44,8 @@ pub enum UsageFault {
     Stop,
     /// The workers are no number from 1 to 64 of at most 9 digits.
     Workers,
+    /// The mode is that of the stress model, and the model is no number from 1 to 1,000 of at most 4 digits.
+    Model,
 }
 
 impl UsageFault {
@@ -54,6 +58,7 @@ impl UsageFault {
             UsageFault::Mode => "usage: --mode\n",
             UsageFault::Stop => "usage: --stop\n",
             UsageFault::Workers => "usage: --workers\n",
+            UsageFault::Model => "usage: MODEL\n",
         }
     }
 }

@@ -6,6 +6,8 @@
 mod arguments;
 mod choose;
 mod command;
+mod members;
+mod mode;
 mod reading;
 mod stop;
 mod workers;

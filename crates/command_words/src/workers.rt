@@ -16,7 +16,7 @@ pub fn read_workers(text: &[u8]) -> Option<u64>
 }
 
 /// The number that 1 to 9 decimal digits write.
-fn number(digits: &[u8]) -> Option<u64>
+pub(crate) fn number(digits: &[u8]) -> Option<u64>
     ensures { MatchOption result
         (IsNumeral 9 digits.now → ⊥)
         (λ n. IsNumeral 9 digits.now × (n ≡ digits_value 10 digits.now)) }

@@ -25,7 +25,7 @@ use Rattle.run_trace.specs.private.Putting.{IsPut, PutsLast, ReportsAs, Reports,
 trace_some : (names : List FlatName) (S : Assignment) (instants : List Ratio) → trace_text names S instants ≢ []
 trace_some names S instants e = cc
 
-line_some : (moment : Moment) (place : FaultPlace) (kind : Fail) → fault_line moment place kind ≢ []
+pub line_some : (moment : Moment) (place : FaultPlace) (kind : Fail) → fault_line moment place kind ≢ []
 line_some moment place kind e = cc
 
 -- the answer of a run
@@ -49,7 +49,7 @@ out_is None text = refl
 out_is (Some fault) text = refl
 
 -- both sinks took an answer
-both_grew : (Right : Answer → Type 0) (o : Outside) (out err : Written) (status : Status) (a : Answer) → o.out ≡ out → o.err ≡ err → Right a → status ≡ a.status → out.new ≡ grown a.out out.old → err.new ≡ grown a.err err.old → EndsWith Right o status
+pub both_grew : (Right : Answer → Type 0) (o : Outside) (out err : Written) (status : Status) (a : Answer) → o.out ≡ out → o.err ≡ err → Right a → status ≡ a.status → out.new ≡ grown a.out out.old → err.new ≡ grown a.err err.old → EndsWith Right o status
 both_grew Right o out err status a on_out on_err is ended out_grew err_grew =
     let grew : GrewBoth out err a.out a.err = record { out_grew = out_grew; err_grew = err_grew } in
     whole a is ended (subst (λ w. GrewBoth w o.err a.out a.err) (sym on_out) (subst (λ w. GrewBoth out w a.out a.err) (sym on_err) grew))
@@ -61,13 +61,13 @@ err_fails Right o out err status a on_out on_err is ended out_grew some (rose, e
     err_failed a is ended (subst (λ w. FailedOnErr w o.err a.out a.err) (sym on_out) (subst (λ w. FailedOnErr out w a.out a.err) (sym on_err) failed))
 
 -- out failed, and err has nothing
-out_fails : (Right : Answer → Type 0) (o : Outside) (out err : Written) (status : Status) (a : Answer) → o.out ≡ out → o.err ≡ err → Right a → status ≡ WriteFault → a.out ≢ [] → IsPut false a.out out → err.new ≡ err.old → EndsWith Right o status
+pub out_fails : (Right : Answer → Type 0) (o : Outside) (out err : Written) (status : Status) (a : Answer) → o.out ≡ out → o.err ≡ err → Right a → status ≡ WriteFault → a.out ≢ [] → IsPut false a.out out → err.new ≡ err.old → EndsWith Right o status
 out_fails Right o out err status a on_out on_err is ended some (rose, out_grew) err_stayed =
     let failed : FailedOnOut out err a.out = record { rose = rose; some = some; out_grew = out_grew; err_stayed = err_stayed } in
     out_failed a is ended (subst (λ w. FailedOnOut w o.err a.out) (sym on_out) (subst (λ w. FailedOnOut out w a.out) (sym on_err) failed))
 
 -- a line on err behind what out took
-last_line : (Right : Answer → Type 0) (o : Outside) (out err : Written) (status : Status) (a : Answer) → o.out ≡ out → o.err ≡ err → Right a → out.new ≡ grown a.out out.old → a.err ≢ [] → PutsLast a.status a.err status err → EndsWith Right o status
+pub last_line : (Right : Answer → Type 0) (o : Outside) (out err : Written) (status : Status) (a : Answer) → o.out ≡ out → o.err ≡ err → Right a → out.new ≡ grown a.out out.old → a.err ≢ [] → PutsLast a.status a.err status err → EndsWith Right o status
 last_line Right o out err status a on_out on_err is out_grew some (inl (ended, put)) = both_grew Right o out err status a on_out on_err is ended out_grew put.0
 last_line Right o out err status a on_out on_err is out_grew some (inr (ended, put)) = err_fails Right o out err status a on_out on_err is ended out_grew some put
 

@@ -87,7 +87,7 @@ module _ (clocks : List Clock) (times : List Ratio) (stop : Ratio) (grid : HasMu
         let lt = found.2 in omega (arith, lt)
 
     -- there are at most as many as rows and ticks, and 0
-    pub few_instants : AreFewEnough clocks times stop → length instants < 2 ^ 63
+    pub few_instants : AreFewEnough clocks times stop → length instants < 2 ^ 32
     few_instants few =
         let made = left_exists clocks times stop (rows_within times stop) few.is.0 few.is.1 in
         let same : instants ≡ made.0 = instants_once clocks times stop instants made.0 are (left_are clocks times stop made.0 made.1) in

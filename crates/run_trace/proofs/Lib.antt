@@ -2,4 +2,4 @@ pub mod Putting
 pub mod Rowing
 pub mod Ending
 mod Instants
-mod Prepared
+pub mod Prepared

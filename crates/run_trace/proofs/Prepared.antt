@@ -47,7 +47,7 @@ module _ (run : PlannedRun) (s : Setting) (planned : IsPlannedRun run s) where
     plan_is = planned.plan_is;
   }
 
-  pub few_moments : length s.instants < 2 ^ 63
+  pub few_moments : length s.instants < 2 ^ 32
   few_moments = few_instants s.clocking.clocks s.table.times planned.stop runs.clocks.grid planned.table_of.times.range planned.is_time s.instants planned.are planned.few
 
   pub names_are : AreNames run.flat.names

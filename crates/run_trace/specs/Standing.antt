@@ -10,4 +10,4 @@ pub record IsAtStart (stands : Setting → Assignment → ℕ → Type 0) (model
   pub assignment : Assignment
   pub stands_for : stands setting assignment 0
   pub model_is : setting.model ≡ model
-  pub few : length setting.instants < 2 ^ 63
+  pub few : length setting.instants < 2 ^ 32

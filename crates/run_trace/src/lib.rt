@@ -5,4 +5,4 @@ mod model;
 mod print;
 
 pub use model::{PlannedRun, run_model};
-pub use print::print_run;
+pub use print::{print_run, put_last};

@@ -116,8 +116,8 @@ fn report<E: Sink>(end: TraceEnd, err: &mut E) -> Status
     }
 }
 
-/// Puts the line of a status on err.
-pub(crate) fn put_last<E: Sink>(err: &mut E, status: Status, line: &[u8]) -> Status
+/// Puts the last line of a run, and gives its status.
+pub fn put_last<E: Sink>(err: &mut E, status: Status, line: &[u8]) -> Status
     ensures puts { PutsLast status line.now result (written (E.text err.old) (E.text err.new) (E.faults err.old) (E.faults err.new)) }
     ensures counts { E.faults err.old ≤ E.faults err.new }
 {

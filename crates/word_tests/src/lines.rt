@@ -25,7 +25,7 @@ const PLAIN: Taken = Taken {
     mode: Mode::Run,
 };
 
-const TAKEN: [Taken; 15] = [
+const TAKEN: [Taken; 18] = [
     PLAIN,
     // Options stand in any order, before the model and behind it.
     Taken {
@@ -95,6 +95,25 @@ const TAKEN: [Taken; 15] = [
         workers: 64,
         ..PLAIN
     },
+    // The stress model has 1 to 1,000 members, in at most 4 digits.
+    Taken {
+        words: &["1", "--stop", "1.5", "--mode", "stress"],
+        model: "1",
+        mode: Mode::Stress(1),
+        ..PLAIN
+    },
+    Taken {
+        words: &["1000", "--stop", "1.5", "--mode", "stress"],
+        model: "1000",
+        mode: Mode::Stress(1000),
+        ..PLAIN
+    },
+    Taken {
+        words: &["0040", "--stop", "1.5", "--mode=stress"],
+        model: "0040",
+        mode: Mode::Stress(40),
+        ..PLAIN
+    },
     // Stops at their bounds.
     Taken {
         words: &["m", "--stop", "0"],
@@ -157,7 +176,7 @@ const WORDS: [Refused; 22] = [
     (&["m", "--mode", "RUN"], "usage: words\n"),
 ];
 
-const VALUES: [Refused; 27] = [
+const VALUES: [Refused; 36] = [
     (&["m", "--stop", "1", "--mode", "RUN"], "usage: --mode\n"),
     (&["m", "--stop", "1", "--mode", "Flat"], "usage: --mode\n"),
     (&["m", "--stop", "1", "--mode="], "usage: --mode\n"),
@@ -211,6 +230,28 @@ const VALUES: [Refused; 27] = [
         &["m", "--stop", "1", "--workers", "0", "--mode", "flat"],
         "usage: --workers\n",
     ),
+    // The members of the stress model come last.
+    (
+        &["0", "--stop", "1", "--workers", "0", "--mode", "stress"],
+        "usage: --workers\n",
+    ),
+    (&["0", "--stop", "1", "--mode", "stress"], "usage: MODEL\n"),
+    (
+        &["0000", "--stop", "1", "--mode", "stress"],
+        "usage: MODEL\n",
+    ),
+    (
+        &["1001", "--stop", "1", "--mode", "stress"],
+        "usage: MODEL\n",
+    ),
+    (
+        &["00001", "--stop", "1", "--mode", "stress"],
+        "usage: MODEL\n",
+    ),
+    (&["", "--stop", "1", "--mode", "stress"], "usage: MODEL\n"),
+    (&["+1", "--stop", "1", "--mode", "stress"], "usage: MODEL\n"),
+    (&["1.", "--stop", "1", "--mode", "stress"], "usage: MODEL\n"),
+    (&["m", "--stop", "1", "--mode", "stress"], "usage: MODEL\n"),
 ];
 
 fn owned(rt: &impl Abort, alloc: Global, words: &[&str]) -> Vec<String> {

@@ -3,7 +3,7 @@ use Rattle.command_answer.specs.Actions.{actions}
 use Rattle.command_answer.specs.Calls.{reads_in}
 use Rattle.clocked_run.specs.private.Putting.{PrintsText}
 use Rattle.clocked_run.specs.private.Tasks.{CanDo, Ends}
-use Rattle.clocked_run.proofs.Calls.{early_call, text_call, run_call}
+use Rattle.clocked_run.proofs.Calls.{early_call, text_call, run_call, stress_call}
 use Rattle.clocked_run.proofs.top.clocked_run.Goals as goal
 
 pub returns-in-Ok-Print : goal.returns-in-Ok-Print
@@ -21,3 +21,9 @@ returns-in-Ok-Run g c =
 
 pub returns-in-Err : goal.returns-in-Err
 returns-in-Err g c = early_call _ _ c.report.result c.in-Err.ensures.shelf (omega arith, c.report.ensures.counts) c.in-Err.end c.in-Err.ensures.ended c.report.ensures.puts refl
+
+pub returns-in-Ok-Stress : goal.returns-in-Ok-Stress
+returns-in-Ok-Stress g c =
+    stress_call _ _ c.run_stress.result c.in-Ok-Stress.ensures.shelf c.run_stress.ensures.counts c.in-Ok-Stress.members c.in-Ok-Stress.run'
+    (λ p step. subst (Ends (actions (reads_in p) (map string_bytes c.args.words.now))) c.in-Ok-Stress.field-0-is (c.in-Ok-Stress.ensures.made p step))
+    (subst CanDo c.in-Ok-Stress.field-0-is c.in-Ok-Stress.ensures.can) c.run_stress.ensures.prints

@@ -1,7 +1,7 @@
 use Rattle.std.proofs.Common.{sym, subst}
 use Rattle.command_words.specs.Choice.{choice_of}
 use Rattle.flat_model.specs.declared.place.Place.TheVariants.{Model}
-use Rattle.command_answer.specs.Actions.{model_of, model_limit}
+use Rattle.command_answer.specs.Actions.{source_in, model_of, model_limit}
 use Rattle.command_answer.specs.Calls.{reads_in}
 use Rattle.command_stages.specs.Ends.{Halts, IsPrintable, of_names}
 use Rattle.command_stages.specs.Segments.{file_of}
@@ -21,7 +21,7 @@ pub returns-in_err-tree-clause-ended : goal.returns-in_err-tree-clause-ended
 returns-in_err-tree-clause-ended g c = λ o step.
     let choice = choice_of c.args.command.now in
     let text = c.as_slice-bytes.result.now in
-    let read = subst (λ t. (file_of (reads_in o) model_limit Model choice.model).makes t) (sym c.as_slice-bytes.ensures.value) (c.in_ok-text.ensures.made o step) in
+    let read = subst (λ t. (file_of (source_in (reads_in o) choice.mode) model_limit Model choice.model).makes t) (sym c.as_slice-bytes.ensures.value) (c.in_ok-text.ensures.made o step) in
     passed (Halts (model_of (reads_in o) choice)) c.from_residual-in_err-tree.result c.in_err-tree.field-0.0 c.from_residual-in_err-tree.ensures.1
     (model_unspelled (reads_in o) choice text read c.in_err-tree.field-0.0 c.in_err-tree.ensures.ended)
 
@@ -33,7 +33,7 @@ returns-in_err-raw-clause-ended g c = λ o step.
     let choice = choice_of c.args.command.now in
     let text = c.as_slice-bytes.result.now in
     let end = c.in_err-raw.field-0.0 in
-    let read = subst (λ t. (file_of (reads_in o) model_limit Model choice.model).makes t) (sym c.as_slice-bytes.ensures.value) (c.in_ok-text.ensures.made o step) in
+    let read = subst (λ t. (file_of (source_in (reads_in o) choice.mode) model_limit Model choice.model).makes t) (sym c.as_slice-bytes.ensures.value) (c.in_ok-text.ensures.made o step) in
     passed (Halts (model_of (reads_in o) choice)) c.from_residual-in_err-raw.result (of_names end) c.from_residual-in_err-raw.ensures.1
     (model_unflat (reads_in o) choice text read c.in_ok-tree.tree c.in_ok-tree.ensures.made end c.in_err-raw.ensures.answer)
 
@@ -49,7 +49,7 @@ pub returns-in_err-typed_of-clause-ended : goal.returns-in_err-typed_of-clause-e
 returns-in_err-typed_of-clause-ended g c = λ o step.
     let choice = choice_of c.args.command.now in
     let text = c.as_slice-bytes.result.now in
-    let read = subst (λ t. (file_of (reads_in o) model_limit Model choice.model).makes t) (sym c.as_slice-bytes.ensures.value) (c.in_ok-text.ensures.made o step) in
+    let read = subst (λ t. (file_of (source_in (reads_in o) choice.mode) model_limit Model choice.model).makes t) (sym c.as_slice-bytes.ensures.value) (c.in_ok-text.ensures.made o step) in
     passed (Halts (model_of (reads_in o) choice)) c.from_residual-in_err-typed_of.result c.in_err-typed_of.field-0.0 c.from_residual-in_err-typed_of.ensures.1
     (model_untyped (reads_in o) choice text read c.in_ok-tree.tree c.in_ok-tree.ensures.made c.in_ok-raw.raw c.in_ok-raw.ensures.answer c.in_err-typed_of.field-0.0 c.in_err-typed_of.ensures.ended)
 
@@ -57,5 +57,5 @@ pub returns-clause-made : goal.returns-clause-made
 returns-clause-made g c = λ o step.
     let choice = choice_of c.args.command.now in
     let text = c.as_slice-bytes.result.now in
-    let read = subst (λ t. (file_of (reads_in o) model_limit Model choice.model).makes t) (sym c.as_slice-bytes.ensures.value) (c.in_ok-text.ensures.made o step) in
+    let read = subst (λ t. (file_of (source_in (reads_in o) choice.mode) model_limit Model choice.model).makes t) (sym c.as_slice-bytes.ensures.value) (c.in_ok-text.ensures.made o step) in
     model_makes (reads_in o) choice text read c.in_ok-tree.tree c.in_ok-tree.ensures.made c.in_ok-raw.raw c.in_ok-raw.ensures.answer c.in_ok-typed_of.field-0 c.in_ok-typed_of.ensures.made

@@ -1,4 +1,4 @@
-use Rattle.std.proofs.Common.{rules, ◌<◌, ◌≤◌, ◌≡◌, ◌^◌, get_or, length}
+use Rattle.std.proofs.Common.{rules, ◌<◌, ◌≤◌, ◌≡◌, ◌^◌, get_or}
 use Rattle.std.specs.Char.{digit_value}
 use Rattle.rational_time.proofs.TimeTexts.{one_digit_more, value_below, no_digit}
 use Rattle.command_words.proofs.workers.number.Goals as goal

@@ -17,7 +17,7 @@ unreachable-requires g c =
     let so_far = c.rows.invariant.so_far start.setting start.assignment start.stands_for start.model_is in
     let many : 2 ^ 63 < c.rows._row = omega (arith, c.rows-test.false) in
     too_many (StandsFor g.P.TickSource.planned c.rows.runner) start.setting c.rows.whole
-    (written (g.O.Sink.text c.args.out.now) (g.O.Sink.text c.rows.out) (g.O.Sink.faults c.args.out.now) (g.O.Sink.faults c.rows.out)) c.rows._row (2 ^ 63) so_far start.few many
+    (written (g.O.Sink.text c.args.out.now) (g.O.Sink.text c.rows.out) (g.O.Sink.faults c.args.out.now) (g.O.Sink.faults c.rows.out)) c.rows._row (2 ^ 63) so_far (let few = start.few in omega (arith, few)) many
 
 pub put_row-whole-requires-clause-row : goal.put_row-whole-requires-clause-row
 put_row-whole-requires-clause-row g c =
