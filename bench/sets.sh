@@ -24,10 +24,10 @@ cat >"$scratch/crates/sets_time/src/main.rt" <<'PROGRAM'
 ghost use Rattle.std.specs.Prelude.{IfOk};
 ghost use Rattle.mo_connect.specs.Chain.{AreBelow};
 
-use mo_connect::{NoMemory, Pair, sets};
+use mo_connect::{Pair, sets};
 use std::alloc::Global;
 use std::process::{Abort, ExitCode};
-use sync_values::List;
+use sync_values::{List, NoMemory};
 
 fn listed(
     rt: &impl Abort,

@@ -12,9 +12,9 @@ use Rattle.clock_terms.specs.Said.{IsMarkedClocked}
 use Rattle.clock_terms.proofs.Marking.{get_below}
 use Rattle.base_partition.specs.declared.group.Grouped.{Grouped}
 use Rattle.base_partition.specs.Classified.{IsMixed, NoneMixed, IsMixedAt, is_source, stands_in, sources_in, IsSecondOf, IsBaseMixedAt, AreApart}
-use Rattle.base_partition.specs.working.Grouped.{IsGrouped}
-use Rattle.base_partition.specs.working.Marks.{IsBoth}
-use Rattle.base_partition.specs.working.Sources.{IsFirstMixed}
+use Rattle.base_partition.specs.private.Grouped.{IsGrouped}
+use Rattle.base_partition.specs.private.Marks.{IsBoth}
+use Rattle.base_partition.specs.private.Sources.{IsFirstMixed}
 use Rattle.base_partition.proofs.ClassNumbers.{set_inside}
 
 module _ (model : FlatModel) (grouped : Grouped) (g : IsGrouped model grouped) where

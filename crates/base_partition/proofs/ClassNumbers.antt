@@ -5,8 +5,8 @@ use Rattle.std.proofs.lemmas.List.Elements.{Contains-get_or}
 use Rattle.mo_connect.specs.declared.Pair.{Pair}
 use Rattle.mo_connect.specs.Chain.{AreJoined, IsPair, stay}
 use Rattle.mo_connect.proofs.Chains.{follow}
-use Rattle.base_partition.specs.working.First.{IsFirst}
-use Rattle.base_partition.specs.working.Numbered.{is_member, first_of, HasFirsts, AreNumbers, AreClassNumbers, AreTogether}
+use Rattle.base_partition.specs.private.First.{IsFirst}
+use Rattle.base_partition.specs.private.Numbered.{is_member, first_of, HasFirsts, AreNumbers, AreClassNumbers, AreTogether}
 
 pub past : {X : Type 0} (xs : List X) (d : X) (i : ℕ) → length xs ≤ i → slice_index_or xs i d ≡ d
 past [] d zero h = refl

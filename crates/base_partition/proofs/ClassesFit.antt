@@ -16,11 +16,11 @@ use Rattle.clock_terms.specs.Said.{IsNode, numbered, IsJoined, AreOfOneClass, Ne
 use Rattle.clock_terms.specs.Classing.{IsMember, AreNumbered, AreConverted, HasMark, AreClassesOf}
 use Rattle.clock_terms.proofs.Joining.{in_one, in_none, here, from_flat, to_flat}
 use Rattle.clock_terms.proofs.Marking.{get_below}
-use Rattle.base_partition.specs.working.Members.{members_of}
-use Rattle.base_partition.specs.working.Numbered.{is_member, AreClassNumbers, AreTogether}
-use Rattle.base_partition.specs.working.Marks.{HasMarks, HasClasses}
-use Rattle.base_partition.specs.working.Pairs.{class_pair, class_pairs}
-use Rattle.base_partition.specs.working.Placed.{ArePlaces}
+use Rattle.base_partition.specs.private.Members.{members_of}
+use Rattle.base_partition.specs.private.Numbered.{is_member, AreClassNumbers, AreTogether}
+use Rattle.base_partition.specs.private.Marks.{HasMarks, HasClasses}
+use Rattle.base_partition.specs.private.Pairs.{class_pair, class_pairs}
+use Rattle.base_partition.specs.private.Placed.{ArePlaces}
 use Rattle.base_partition.proofs.FirstPlaces.{count_map}
 
 -- ---- members

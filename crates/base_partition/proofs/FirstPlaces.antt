@@ -8,7 +8,7 @@ use Rattle.clock_terms.specs.declared.data.NodeOf.{NodeOf}
 use Rattle.clock_terms.specs.Nodes.{Node, nodes_of, entry}
 use Rattle.clock_terms.specs.Said.{numbered}
 use Rattle.clock_terms.specs.Classing.{IsPlaceOf}
-use Rattle.base_partition.specs.working.Placed.{ArePlaces}
+use Rattle.base_partition.specs.private.Placed.{ArePlaces}
 
 get_of_map : (nodes : List Node) (j : ℕ) → j < length nodes → (node : Node) × (slice_get nodes j ≡ Some node) × ((d : NodeOf) → get_or (map entry nodes) j d ≡ entry node)
 get_of_map [] j within = absurd (omega (arith, within))

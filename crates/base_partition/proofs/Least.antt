@@ -9,7 +9,7 @@ use Rattle.std.specs.List.Sorted.{IsStrictlyIncreasing}
 use Rattle.mo_connect.specs.declared.Pair.{Pair}
 use Rattle.mo_connect.specs.Chain.{AreJoined, stay}
 use Rattle.mo_connect.specs.Classes.{AreClasses}
-use Rattle.base_partition.specs.working.First.{IsFirst, Marks, AllMarked}
+use Rattle.base_partition.specs.private.First.{IsFirst, Marks, AllMarked}
 
 abbrev pub Marked : ℕ → List ℕ → ℕ → List ℕ → List ℕ → Type 0
 Marked i class least old new = (x : ℕ) →

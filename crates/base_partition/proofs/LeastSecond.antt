@@ -6,7 +6,7 @@ use Rattle.std.proofs.lemmas.Bool.Decides.{nat_tests}
 use Rattle.clock_terms.specs.declared.data.Classes.{Classes}
 use Rattle.clock_terms.specs.declared.data.Constructor.{Constructor}
 use Rattle.base_partition.specs.declared.source.Sources.{Sources}
-use Rattle.base_partition.specs.working.Sources.{no_sources, AreKept, mixed_in, lesser_of, IsLeastOf, IsFirstMixed}
+use Rattle.base_partition.specs.private.Sources.{no_sources, AreKept, mixed_in, lesser_of, IsLeastOf, IsFirstMixed}
 use Rattle.base_partition.proofs.Summing.{second_mixed, mixed_second}
 
 module _ (bases : List Sources) (b : Sources) where

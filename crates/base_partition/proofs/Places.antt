@@ -3,7 +3,7 @@ use Rattle.std.proofs.Common.{Result, Ok, Err, OnOk, ◌≡◌, refl, ap, subst,
 use Rattle.std.proofs.lemmas.List.{length-append, get_or_push, get_or_default}
 use Rattle.std.proofs.lemmas.List.Elements.{Contains-push_cases}
 use Rattle.std.proofs.lemmas.Bool.{cases_eq}
-use Rattle.base_partition.specs.working.Numbered.{is_member, first_of, HasFirsts, AreNumbers}
+use Rattle.base_partition.specs.private.Numbered.{is_member, first_of, HasFirsts, AreNumbers}
 
 get_pushed : {X : Type 0} (xs : List X) (y d : X) (i : ℕ) → i < length xs → get_or (xs ++ y ∷ []) i d ≡ get_or xs i d
 get_pushed [] y d i lt = absurd (omega (arith, lt))

@@ -12,7 +12,7 @@ use Rattle.clock_terms.specs.declared.data.Constructor.{Constructor}
 use Rattle.clock_terms.specs.Classing.{class_in, is_clocked, partition_in}
 use Rattle.base_partition.specs.declared.source.Sources.{Sources}
 use Rattle.base_partition.specs.Classified.{is_source, is_event, stands_in, sources_in, IsSecondOf}
-use Rattle.base_partition.specs.working.Sources.{no_sources, is_some_list, summary, second_with, with_source, AreKept, mixed_in}
+use Rattle.base_partition.specs.private.Sources.{no_sources, is_some_list, summary, second_with, with_source, AreKept, mixed_in}
 
 some_push : (ks : List Constructor) (k : Constructor) → is_some_list (ks ++ k ∷ []) ≡ true
 some_push [] k = refl

@@ -1,3 +1,3 @@
 pub mod Classified
-pub mod working
 pub mod Laws
+pub mod private

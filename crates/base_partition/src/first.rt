@@ -1,11 +1,11 @@
 ghost use Rattle.std.specs.Prelude.{◌≡◌, ℕ, ◌<◌, All, List, length, IfOk, vec_len, slice_index_or, []};
 ghost use Rattle.mo_connect.specs.Chain.{AreBelow};
 ghost use Rattle.mo_connect.specs.Classes.{AreClasses};
-ghost use Rattle.base_partition.specs.working.First.{IsFirst, Marks, AllMarked};
+ghost use Rattle.base_partition.specs.private.First.{IsFirst, Marks, AllMarked};
 
-use mo_connect::{NoMemory, Pair, sets};
+use mo_connect::{Pair, sets};
 use std::alloc::{AllocError, Global};
-use sync_values::List;
+use sync_values::{List, NoMemory};
 
 /// Gives each number of a class the first of them.
 fn mark(first: &mut [u32], class: &[u32])

@@ -1,7 +1,7 @@
 //! Names and nodes in classes, and classes in base partitions.
 ghost use Rattle.std.specs.Prelude.{IfOk};
 ghost use Rattle.clock_terms.specs.Said.{AreTermsOf};
-ghost use Rattle.base_partition.specs.working.Grouped.{IsGrouped};
+ghost use Rattle.base_partition.specs.private.Grouped.{IsGrouped};
 
 use crate::joining::joined;
 use crate::marking::marks;
@@ -10,9 +10,8 @@ use crate::numbering::numbered;
 use crate::placing::places;
 use clock_terms::{Classes, Terms};
 use flat_model::FlatModel;
-use mo_connect::NoMemory;
 use std::alloc::Global;
-use sync_values::List;
+use sync_values::{List, NoMemory};
 
 /// The classes of a model, which of them are marked as unclocked, and the number of base partitions.
 #[derive(Drop)]

@@ -1,6 +1,6 @@
 //! The classes that conversions join.
 ghost use Rattle.std.specs.Prelude.{◌≡◌, IfOk, OnOk, [], ◌∷◌, ◌++◌};
-ghost use Rattle.base_partition.specs.working.Pairs.{class_pair, class_pairs};
+ghost use Rattle.base_partition.specs.private.Pairs.{class_pair, class_pairs};
 
 use crate::member::{flag_in, number_in};
 use mo_connect::Pair;

@@ -1,9 +1,11 @@
 use flat_model::Place;
-use mo_connect::NoMemory;
 use std::alloc::AllocError;
+use std::error::Error;
+use std::fmt;
+use sync_values::NoMemory;
 
 /// Why a model has no classes.
-#[derive(Drop)]
+#[derive(Debug, Drop)]
 pub enum ClassEnd {
     /// A class is marked as clocked and as unclocked.
     Mixed { place: Place },
@@ -12,6 +14,21 @@ pub enum ClassEnd {
     BaseMixed { equation: u32 },
     NoMemory,
 }
+
+impl fmt::Display for ClassEnd {
+    fn fmt<W: fmt::Write>(&self, f: &mut fmt::Formatter<W>) -> fmt::Result {
+        match self {
+            ClassEnd::Mixed { place } => write!(f, "clocked and unclocked at {place:?}"),
+            ClassEnd::BaseMixed { equation } => write!(
+                f,
+                "a second constructor at equation {equation}, counted from 0"
+            ),
+            ClassEnd::NoMemory => write!(f, "no memory"),
+        }
+    }
+}
+
+impl Error for ClassEnd {}
 
 impl From<AllocError> for ClassEnd {
     ghost use Rattle.std.specs.Prelude.{◌≡◌};

@@ -1,7 +1,7 @@
 //! Marks of classes, and the first class that has both.
 ghost use Rattle.std.specs.Prelude.{◌≡◌, ℕ, ◌<◌, length, slice_index_or, MatchOption, IfOk, true, false};
-ghost use Rattle.base_partition.specs.working.Marks.{HasClasses, HasMarks, IsBoth, with_mark};
-ghost use Rattle.base_partition.specs.working.Numbered.{is_member};
+ghost use Rattle.base_partition.specs.private.Marks.{HasClasses, HasMarks, IsBoth, with_mark};
+ghost use Rattle.base_partition.specs.private.Numbered.{is_member};
 
 use crate::member::{flag_in, number_in};
 use std::alloc::{AllocError, Global};

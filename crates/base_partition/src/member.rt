@@ -1,6 +1,6 @@
 //! Members of classes: the names that are no inputs, and the nodes.
 ghost use Rattle.std.specs.Prelude.{◌≡◌, IfOk, slice_index_or, false};
-ghost use Rattle.base_partition.specs.working.Members.{members_of};
+ghost use Rattle.base_partition.specs.private.Members.{members_of};
 
 use flat_model::FlatName;
 use std::alloc::{AllocError, Global};

@@ -1,12 +1,12 @@
 //! Numbers of classes: a class is numbered by its first member.
 ghost use Rattle.std.specs.Prelude.{◌≡◌, ℕ, ◌+◌, ◌<◌, ◌≤◌, true, length, List, IfOk, OnOk, slice_index_or, []};
 ghost use Rattle.mo_connect.specs.Chain.{AreBelow};
-ghost use Rattle.base_partition.specs.working.Numbered.{AreClassNumbers, AreNumbers, AreTogether, HasFirsts};
+ghost use Rattle.base_partition.specs.private.Numbered.{AreClassNumbers, AreNumbers, AreTogether, HasFirsts};
 
 use crate::first::firsts;
-use mo_connect::{NoMemory, Pair};
+use mo_connect::Pair;
 use std::alloc::{AllocError, Global};
-use sync_values::List;
+use sync_values::{List, NoMemory};
 
 /// The first members of classes, rising, and for each number the place of its own first one; 0 for no member.
 #[derive(Drop)]

@@ -2,7 +2,7 @@
 ghost use Rattle.std.specs.Prelude.{◌≡◌, ◌<◌, ◌+◌, length, map, All, IfOk};
 ghost use Rattle.clock_terms.specs.Classing.{IsPlaceOf};
 ghost use Rattle.clock_terms.specs.Nodes.{entry, nodes_of};
-ghost use Rattle.base_partition.specs.working.Placed.{ArePlaces};
+ghost use Rattle.base_partition.specs.private.Placed.{ArePlaces};
 
 use clock_terms::NodeOf;
 use flat_model::{FlatModel, Place};

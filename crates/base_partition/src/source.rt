@@ -3,7 +3,7 @@ ghost use Rattle.std.specs.Prelude.{◌≡◌, ℕ, List, length, IfOk, [], ◌�
 ghost use Rattle.clock_terms.specs.declared.data.Constructor.{Constructor};
 ghost use Rattle.clock_terms.specs.Source.{kind_of};
 ghost use Rattle.base_partition.specs.Classified.{gives_clock, gives_site};
-ghost use Rattle.base_partition.specs.working.Sources.{no_sources, with_source, AreKept, mixed_in, lesser_of, IsLeastOf, IsFirstMixed};
+ghost use Rattle.base_partition.specs.private.Sources.{no_sources, with_source, AreKept, mixed_in, lesser_of, IsLeastOf, IsFirstMixed};
 
 use crate::member::{flag_in, number_in};
 use clock_terms::{Classes, Constructor};

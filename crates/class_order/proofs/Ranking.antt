@@ -36,24 +36,3 @@ by_place classes reached start found is moved up = record {
 
 pub no_ranks : (found : List Placed) (ranks : List ℕ) → AreRanks found 0 ranks
 no_ranks found ranks k entry below = absurd (omega (arith, below))
-
-module _ (found : List Placed) (ranks : List ℕ) (rank : ℕ) (entry : Placed) (before : AreRanks found rank ranks) (at : slice_get found rank ≡ Some entry)
-    (within : entry.class < length ranks) where
-  pub one_rank : AreRanks found (rank + 1) (slice_set ranks entry.class rank)
-  one_rank k e below there = by (set_or ranks entry.class rank e.class 0 within)
-    where
-      place : (other : ℕ) → rank_of (slice_set ranks entry.class rank) e.class ≡ other → (o : Placed) × (slice_get found other ≡ Some o) × (o.class ≡ e.class)
-          → (o : Placed) × (slice_get found (rank_of (slice_set ranks entry.class rank) e.class) ≡ Some o) × (o.class ≡ e.class)
-      place other same this = (this.0, ap (slice_get found) same ∙ this.1, this.2)
-
-      early : (entry.class ≡ e.class → ⊥) → (k < rank) ⊎ (rank ≤ k) → k < rank
-      early differs (inl less) = less
-      early differs (inr past) =
-          let same : rank ≡ k = omega (arith, past, below) in
-          let this : entry ≡ e = cc (at, subst (λ n. slice_get found n ≡ Some e) (sym same) there) in
-          absurd (differs (ap (λ p. p.class) this))
-
-      by : ((entry.class ≡ e.class) × (rank_of (slice_set ranks entry.class rank) e.class ≡ rank)) ⊎ ((entry.class ≡ e.class → ⊥) × (rank_of (slice_set ranks entry.class rank) e.class ≡ rank_of ranks e.class))
-          → (o : Placed) × (slice_get found (rank_of (slice_set ranks entry.class rank) e.class) ≡ Some o) × (o.class ≡ e.class)
-      by (inl here) = place rank here.1 (entry, at, here.0)
-      by (inr other) = place (rank_of ranks e.class) other.1 (before k e (early other.0 (cases_lt k rank)) there)

@@ -7,7 +7,7 @@ use Rattle.class_scopes.specs.Spelled.{Ident, spelled}
 use Rattle.class_scopes.specs.Places.{least, repeats}
 use Rattle.class_scopes.specs.N2.{class_entry, repeated_classes}
 use Rattle.class_scopes.specs.Tables.{Numbered, IsTableOf, span_entry}
-use Rattle.class_scopes.specs.Sources.{Numbers}
+use Rattle.class_scopes.specs.private.Sources.{Numbers}
 
 abbrev pub spans : List ClassDef → List Span
 spans classes = map (λ class. class.name) classes

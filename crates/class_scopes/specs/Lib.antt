@@ -4,7 +4,6 @@ pub mod N2
 pub mod Names
 pub mod Places
 pub mod Reached
-pub mod Sources
 pub mod Spelled
 pub mod Tables
 pub mod Types

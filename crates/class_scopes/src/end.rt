@@ -1,5 +1,7 @@
 //! Broken rules of names, instances and parameters.
 use std::alloc::AllocError;
+use std::error::Error;
+use std::fmt;
 
 /// A rule of names, instances and parameters. This project's own codes.
 #[derive(Clone, Copy, Debug, PartialEq, Eq)]
@@ -29,13 +31,24 @@ pub enum NameCode {
 }
 
 /// Why the rules of a file are not kept.
-#[derive(Clone, Copy)]
+#[derive(Clone, Copy, Debug)]
 pub enum RuleEnd {
     /// The first broken rule, and the byte of the text where it is broken.
     Broken(NameCode, u32),
     /// Memory was refused.
     NoMemory,
 }
+
+impl fmt::Display for RuleEnd {
+    fn fmt<W: fmt::Write>(&self, f: &mut fmt::Formatter<W>) -> fmt::Result {
+        match self {
+            RuleEnd::Broken(code, at) => write!(f, "{code:?} at byte {at}"),
+            RuleEnd::NoMemory => write!(f, "no memory"),
+        }
+    }
+}
+
+impl Error for RuleEnd {}
 
 impl From<AllocError> for RuleEnd {
     ghost use Rattle.std.specs.Prelude.{◌≡◌};

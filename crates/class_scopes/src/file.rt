@@ -4,7 +4,7 @@ ghost use Rattle.std.specs.Option.{option_copied};
 ghost use Rattle.class_scopes.specs.Places as places;
 ghost use Rattle.class_scopes.specs.Types as types;
 ghost use Rattle.class_scopes.specs.N2 as N2;
-ghost use Rattle.class_scopes.specs.Sources.{Numbers};
+ghost use Rattle.class_scopes.specs.private.Sources.{Numbers};
 
 use crate::table::{Table, table_of};
 use crate::type_name::TypeName;

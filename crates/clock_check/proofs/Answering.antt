@@ -11,7 +11,7 @@ use Rattle.clock_spread.proofs.Leasts.{least_same}
 use Rattle.clock_check.specs.declared.kinds.CheckEnd.{CheckEnd}
 use Rattle.clock_check.specs.declared.kinds.CheckEnd.TheVariants.{Factor, EarlyStart, NotOnEvent, EventFactor, HoldInCondition, NoMemory}
 use Rattle.clock_check.specs.Checking.{Checks, BreaksRule, HoldsInCondition}
-use Rattle.clock_check.specs.Holding.{IsHoldingAt}
+use Rattle.clock_check.specs.private.Holding.{IsHoldingAt}
 use Rattle.clock_check.proofs.Conditions.{holding_to, holding_from}
 
 pub breaks_checks : (model : FlatModel) (terms : Terms) (classes : Classes) (grids : List Grid) (end : CheckEnd) → BreaksRule terms classes grids end → Checks model terms classes grids (Err end)

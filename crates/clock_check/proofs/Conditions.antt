@@ -11,7 +11,7 @@ use Rattle.clock_terms.specs.Classing.{AreClassesOf, class_in}
 use Rattle.clock_terms.specs.Nodes.{Node, entry, nodes_of}
 use Rattle.clock_terms.specs.Said.{AreTermsOf, IsNode, IsHolding}
 use Rattle.clock_check.specs.Checking.{HoldsInCondition}
-use Rattle.clock_check.specs.Holding.{IsInClass, IsHoldingAt}
+use Rattle.clock_check.specs.private.Holding.{IsInClass, IsHoldingAt}
 
 none_some : {A : Type 0} {a : A} → None ≡ Some a → ⊥
 none_some e = absurd cc

@@ -4,9 +4,9 @@ use Rattle.std.specs.List.{count_by}
 use Rattle.std.proofs.lemmas.List.{get_or_past}
 use Rattle.std.proofs.lemmas.Option.{slice_get_within, get_or_from_slice_get}
 use Rattle.clock_terms.specs.declared.data.Grid.{Grid}
-use Rattle.clock_check.specs.Numbering.{number_at, grid_at, AreNumbers}
+use Rattle.clock_check.specs.private.Numbering.{number_at, grid_at, AreNumbers}
 use Rattle.clock_check.specs.declared.flaw.Flaw.{Flaw}
-use Rattle.clock_check.specs.Flaws.{IsFlawAt}
+use Rattle.clock_check.specs.private.Flaws.{IsFlawAt}
 
 -- the number of a class, where it is known whether it is clocked
 pub number_true : (clocked : List Bool) (c : ℕ) → slice_index_or clocked c false ≡ true → number_at clocked c ≡ Some (count_by (λ b. b) (take c clocked))

@@ -6,7 +6,7 @@ use Rattle.clock_terms.specs.Position.{progression_of_grid}
 use Rattle.clock_terms.specs.Asked.{Asks}
 use Rattle.clock_spread.specs.Found.{class_in}
 use Rattle.clock_check.specs.Inferring.{IsInferred, FailsInferred}
-use Rattle.clock_check.specs.Numbering.{grid_at}
+use Rattle.clock_check.specs.private.Numbering.{grid_at}
 
 some_same : {A : Type 0} {a b : A} → Some a ≡ Some b → a ≡ b
 some_same e = cc

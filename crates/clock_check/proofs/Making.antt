@@ -11,7 +11,7 @@ use Rattle.clock_terms.specs.Nodes.{Node, entry, cut_nodes, own_node, side_cuts,
 use Rattle.clock_terms.specs.Position.{Progression}
 use Rattle.clock_terms.specs.Source.{Kind, Inferred, Every, AtSite, Other, kind_of, Source, every, at_site, source_before, sources_from}
 use Rattle.clock_check.specs.ClockingOf.{sites_before, AreSites}
-use Rattle.clock_check.specs.Making.{own_by, node_numbers}
+use Rattle.clock_check.specs.private.Making.{own_by, node_numbers}
 
 none_some : {A : Type 0} {a : A} → None ≡ Some a → ⊥
 none_some e = absurd cc

@@ -9,7 +9,7 @@ use Rattle.clock_terms.specs.declared.data.NodeOf.{NodeOf}
 use Rattle.clock_spread.specs.Found.{class_in}
 use Rattle.clock_spread.specs.Least.{IsLeastOf, lesser_of}
 use Rattle.clock_spread.proofs.Leasts.{least_same, lesser_least}
-use Rattle.clock_check.specs.Holding.{HasHold, IsHoldingAt}
+use Rattle.clock_check.specs.private.Holding.{HasHold, IsHoldingAt}
 
 true_false : {b : Bool} → b ≡ true → b ≡ false → ⊥
 true_false e f = absurd cc

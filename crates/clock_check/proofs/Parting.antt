@@ -3,7 +3,7 @@ use Rattle.std.proofs.Common.{◌≡◌, ◌∙◌, ap, subst, ℕ, Bool, true, 
 use Rattle.std.specs.List.{count_by}
 use Rattle.flat_model.specs.declared.model.FlatName.{FlatName}
 use Rattle.clock_terms.specs.declared.data.NodeOf.{NodeOf}
-use Rattle.clock_check.specs.Making.{AreNumbersOfNames, node_numbers}
+use Rattle.clock_check.specs.private.Making.{AreNumbersOfNames, node_numbers}
 
 pub names_at : (numbers : List (Option ℕ)) (list : List (Option ℕ)) (names own : List FlatName) (class_of classes : List ℕ) → names ≡ own → class_of ≡ classes
     → AreNumbersOfNames names class_of numbers (length names) list → AreNumbersOfNames own classes numbers (length own) list

@@ -5,7 +5,7 @@ use Rattle.flat_model.specs.declared.expression.Expr.{Expr}
 use Rattle.clock_terms.specs.declared.data.Constructor.{Constructor}
 use Rattle.clock_terms.specs.Source.{Kind, Inferred, Every, AtSite, Other, kind_of}
 use Rattle.clock_check.specs.ClockingOf.{sites_before, AreSites}
-use Rattle.clock_check.specs.Making.{adds_by, AddsSite}
+use Rattle.clock_check.specs.private.Making.{adds_by, AddsSite}
 
 abbrev pub Continues : List Constructor → List Expr → List Constructor → Type 0
 Continues all old rest = (sites : List Expr) → AreSites rest sites → AreSites all (old ++ sites)

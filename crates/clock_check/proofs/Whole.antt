@@ -36,9 +36,9 @@ use Rattle.clock_check.specs.Broken.{StartsEarly, HasNoWholeShift, HasNoWholeFac
 use Rattle.clock_check.specs.Checking.{grid_of, held_by, AreFactorsWhole}
 use Rattle.clock_check.specs.ClockingOf.{number_in, class_of_name, held_in, IsClockingOf}
 use Rattle.clock_check.specs.Inferring.{IsInferred}
-use Rattle.clock_check.specs.Numbering.{AreNumbers}
-use Rattle.clock_check.specs.Making.{number_of_name, node_numbers, clock_by, clock_of_grid}
-use Rattle.clock_check.specs.Made.{IsMade}
+use Rattle.clock_check.specs.private.Numbering.{AreNumbers}
+use Rattle.clock_check.specs.private.Making.{number_of_name, node_numbers, clock_by, clock_of_grid}
+use Rattle.clock_check.specs.private.Made.{IsMade}
 use Rattle.clock_check.proofs.Making.{own_numbers, numbers_entries, own_length, own_get, sites_below}
 use Rattle.clock_check.proofs.Stable.{stable_nat, stable_source, stable_given, stable_inferred, inferred_same}
 

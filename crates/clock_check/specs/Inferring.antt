@@ -7,7 +7,7 @@ use Rattle.clock_terms.specs.declared.data.Relation.{Relation}
 use Rattle.clock_terms.specs.Position.{progression_of_grid}
 use Rattle.clock_terms.specs.Clocking.{Held, RelationHolds}
 use Rattle.clock_spread.specs.Turn.{said_by}
-use Rattle.clock_check.specs.Numbering.{grid_at}
+use Rattle.clock_check.specs.private.Numbering.{grid_at}
 
 -- the factor is to be inferred
 abbrev pub IsInferred : Conversion → Type 0

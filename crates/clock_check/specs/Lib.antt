@@ -1,10 +1,6 @@
-pub mod Numbering
 pub mod Broken
-pub mod Flaws
 pub mod Inferring
-pub mod Holding
 pub mod ClockingOf
-pub mod Making
-pub mod Made
 pub mod Checking
 pub mod Laws
+pub mod private

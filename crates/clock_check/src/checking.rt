@@ -6,9 +6,9 @@ ghost use Rattle.clock_terms.specs.Said.{AreTermsOf};
 ghost use Rattle.clock_terms.specs.Classing.{AreClassesOf};
 ghost use Rattle.sub_clock_solve.specs.Solving.{IsSolution};
 ghost use Rattle.sub_clock_solve.specs.Standing.{FitTogether};
-ghost use Rattle.clock_check.specs.Numbering.{AreNumbers};
+ghost use Rattle.clock_check.specs.private.Numbering.{AreNumbers};
 ghost use Rattle.clock_check.specs.Inferring.{IsInferred};
-ghost use Rattle.clock_check.specs.Made.{IsMade};
+ghost use Rattle.clock_check.specs.private.Made.{IsMade};
 ghost use Rattle.clock_check.specs.Checking.{Checks, AreFactorsWhole, BreaksRule};
 
 use crate::condition::held_condition;

@@ -1,7 +1,7 @@
 //! Event conditions in whose class a `hold` stands.
 ghost use Rattle.std.specs.Prelude.{◌≡◌, ◌<◌, ◌≤◌, ◌+◌, ◌==◌, if◌then◌else◌, ◌↔◌, ◌⊎◌, ℕ, All, length, IfOk, IsTrue, vec_len, slice_index_or, true, false, Some};
 ghost use Rattle.clock_spread.specs.Least.{IsLeastOf};
-ghost use Rattle.clock_check.specs.Holding.{HasHold, IsInClass, IsHoldingAt};
+ghost use Rattle.clock_check.specs.private.Holding.{HasHold, IsInClass, IsHoldingAt};
 
 use clock_spread::lesser;
 use clock_terms::{Cause, NodeOf};

@@ -5,7 +5,7 @@ ghost use Rattle.clock_terms.specs.Asked.{Asks};
 ghost use Rattle.flat_model.specs.declared.clock.Conversion.TheVariants.{Sub, Super};
 ghost use Rattle.clock_spread.specs.Found.{HasEnds};
 ghost use Rattle.clock_spread.specs.Least.{IsLeastOf, IsNumberIn};
-ghost use Rattle.clock_check.specs.Numbering.{AreNumbers};
+ghost use Rattle.clock_check.specs.private.Numbering.{AreNumbers};
 ghost use Rattle.clock_check.specs.Inferring.{IsInferred, FailsInferred};
 
 use crate::numbers::grid_of_class;
@@ -28,7 +28,7 @@ fn is_multiple(of: Ratio, period: Ratio) -> bool
 }
 
 /// Whether some whole factor makes the slower clock of the faster one.
-pub fn is_some_factor(slower: Grid, faster: Grid) -> bool
+pub(crate) fn is_some_factor(slower: Grid, faster: Grid) -> bool
     requires slower { IsFine (2 ^ 40) slower }
     requires faster { IsFine (2 ^ 40) faster }
     ensures sub { IsTrue result ↔ Asks (Sub 0) (progression_of_grid slower) (progression_of_grid faster) }

@@ -2,8 +2,8 @@
 ghost use Rattle.std.specs.Prelude.{◌≡◌, ◌↔◌, length, Bool, List, IsTrue};
 ghost use Rattle.clock_terms.specs.declared.data.Grid.{Grid};
 ghost use Rattle.clock_spread.specs.Least.{IsLeastOf};
-ghost use Rattle.clock_check.specs.Numbering.{AreNumbers};
-ghost use Rattle.clock_check.specs.Flaws.{HasFlaw, IsFlawAt};
+ghost use Rattle.clock_check.specs.private.Numbering.{AreNumbers};
+ghost use Rattle.clock_check.specs.private.Flaws.{HasFlaw, IsFlawAt};
 
 use crate::numbers::grid_of_class;
 use clock_terms::Grid;

@@ -1,4 +1,6 @@
 use std::alloc::AllocError;
+use std::error::Error;
+use std::fmt;
 
 /// Why the clocks make no clocking.
 #[derive(Clone, Copy, Debug)]
@@ -15,6 +17,33 @@ pub enum CheckEnd {
     HoldInCondition { equation: u32 },
     NoMemory,
 }
+
+impl fmt::Display for CheckEnd {
+    fn fmt<W: fmt::Write>(&self, f: &mut fmt::Formatter<W>) -> fmt::Result {
+        match self {
+            CheckEnd::Factor { equation } => write!(
+                f,
+                "no factor at equation {equation}, counted from 0"
+            ),
+            CheckEnd::EarlyStart { class } => write!(f, "class {class} starts before 0"),
+            CheckEnd::NotOnEvent { class } => write!(
+                f,
+                "the shift of class {class} is not on its event"
+            ),
+            CheckEnd::EventFactor { class } => write!(
+                f,
+                "the factor of class {class} is not whole"
+            ),
+            CheckEnd::HoldInCondition { equation } => write!(
+                f,
+                "a hold at equation {equation}, counted from 0"
+            ),
+            CheckEnd::NoMemory => write!(f, "no memory"),
+        }
+    }
+}
+
+impl Error for CheckEnd {}
 
 impl From<AllocError> for CheckEnd {
     ghost use Rattle.std.specs.Prelude.{◌≡◌};

@@ -12,6 +12,5 @@ mod numbers;
 mod parts;
 
 pub use checking::check;
-pub use factor::is_some_factor;
 pub use kinds::CheckEnd;
 pub use law::ready_law;

@@ -1,6 +1,6 @@
 //! Classes and their numbers among the clocked ones.
 ghost use Rattle.std.specs.Prelude.{◌≡◌, Bool, List, IfOk, IfSome, Contains, None, slice_get, slice_index_or};
-ghost use Rattle.clock_check.specs.Numbering.{AreNumbers, grid_at};
+ghost use Rattle.clock_check.specs.private.Numbering.{AreNumbers, grid_at};
 
 use clock_terms::Grid;
 use std::alloc::{AllocError, Global};

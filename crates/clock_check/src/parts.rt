@@ -1,8 +1,8 @@
 //! The parts of a clocking.
 ghost use Rattle.std.specs.Prelude.{◌≡◌, ◌<◌, ◌≤◌, ◌+◌, ◌++◌, ◌∷◌, [], ℕ, All, List, length, take, IfOk, OnOk, slice_get, slice_index_or, count_by, true, false};
-ghost use Rattle.clock_check.specs.Making.{number_of_name, node_numbers, own_number, clock_of_grid, AreClocksOf, AreNumbersOfNames};
+ghost use Rattle.clock_check.specs.private.Making.{number_of_name, node_numbers, own_number, clock_of_grid, AreClocksOf, AreNumbersOfNames};
 ghost use Rattle.clock_check.specs.ClockingOf.{AreSites};
-ghost use Rattle.clock_check.specs.Making.{AddsSite};
+ghost use Rattle.clock_check.specs.private.Making.{AddsSite};
 
 use crate::numbers::number_of_class;
 use clock_terms::{Constructor, Grid, NodeOf};

@@ -6,7 +6,7 @@ use Rattle.rational_time.specs.declared.ratio.Ratio.{Ratio}
 use Rattle.rational_time.specs.Fraction.{IsFraction, Exceeds, DoesNotFit, ArePartsBelow}
 use Rattle.rational_time.specs.Shift.{signed, moved_num}
 use Rattle.clock_terms.specs.declared.data.Grid.{Grid}
-use Rattle.clock_spread.specs.Parts.{moved_start, HaveSameParts}
+use Rattle.clock_spread.specs.private.MovedStarts.{moved_start, HaveSameParts}
 use Rattle.rational_time.proofs.Fractions.{IsLowest-ratio, IsGcd-ratio, below_limits, lowest_same}
 use Rattle.clock_terms.specs.Position.{Position, IsAt, at_ratio, at_signed, IsPastLimit, IsTooFine, IsFine, Progression, IsProper, AreSame, progression_of_grid}
 

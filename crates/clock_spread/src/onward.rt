@@ -3,7 +3,7 @@ ghost use Rattle.std.specs.Prelude.{◌≡◌, ◌^◌, ◌<◌, ◌↔◌, IfSo
 ghost use Rattle.rational_time.specs.Fraction.{ArePartsBelow};
 ghost use Rattle.clock_terms.specs.Position.{IsAt, at_ratio, at_signed, part, progression_of_grid, AreSame, IsPastLimit, IsTooFine, IsFine};
 ghost use Rattle.clock_terms.specs.Asked.{Asks, converted, IsGiven};
-ghost use Rattle.clock_spread.specs.Parts.{moved_start, IsFineStart, HaveSameParts};
+ghost use Rattle.clock_spread.specs.private.MovedStarts.{moved_start, IsFineStart, HaveSameParts};
 
 use clock_terms::Grid;
 use flat_model::Conversion;

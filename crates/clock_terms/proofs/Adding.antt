@@ -12,7 +12,7 @@ use Rattle.clock_terms.specs.declared.walk.At.{At}
 use Rattle.clock_terms.specs.Mentions.{Mention, Stands, Ticks, Samples, Holds, Converts, Gives}
 use Rattle.clock_terms.specs.Nodes.{Node, nodes_of, entry}
 use Rattle.clock_terms.specs.Gathered.{with_mention, with_mentions, with_name, with_relation, with_cause, with_clause, with_lead, with_place, with_node, with_nodes, next_number, lead_from, start_of, terms_of, clock_names}
-use Rattle.clock_terms.specs.gathering.Added.{adds, clocked_by, clause_marks, clocked_step, input_marks, name_marks, unclocked_by, cause_marks, unclocked_step, own_joins, name_joins, joins_by, lead_joins, clause_joins, joins_step}
+use Rattle.clock_terms.specs.private.Added.{adds, clocked_by, clause_marks, clocked_step, input_marks, name_marks, unclocked_by, cause_marks, unclocked_step, own_joins, name_joins, joins_by, lead_joins, clause_joins, joins_step}
 use Rattle.clock_terms.proofs.Leading.{nodes_node}
 
 module _ {X : Type 0} (list : Terms → List X) (names : List FlatName) where

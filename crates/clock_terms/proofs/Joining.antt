@@ -11,9 +11,9 @@ use Rattle.clock_terms.specs.declared.data.NodeOf.{NodeOf}
 use Rattle.clock_terms.specs.Mentions.{Mention, Stands, Ticks, Samples, Holds, Converts, Gives}
 use Rattle.clock_terms.specs.Nodes.{Node, nodes_of, is_clause, entry}
 use Rattle.clock_terms.specs.Gathered.{lead_from, terms_of}
-use Rattle.clock_terms.specs.gathering.Leads.{has_lead}
+use Rattle.clock_terms.specs.private.Leads.{has_lead}
 use Rattle.clock_terms.specs.Said.{IsNode, numbered, StandsUncut, AreOfOneClause, IsJoined, AreOfOneClass}
-use Rattle.clock_terms.specs.gathering.Added.{adds, number_after, own_joins, name_joins, joins_by, lead_joins, clause_joins, joins_step}
+use Rattle.clock_terms.specs.private.Added.{adds, number_after, own_joins, name_joins, joins_by, lead_joins, clause_joins, joins_step}
 use Rattle.clock_terms.proofs.Adding.{joins_are}
 
 -- ---- members of lists

@@ -17,7 +17,7 @@ use Rattle.clock_terms.specs.Mentions.{Mention, Stands, Ticks, Samples, Holds, C
 use Rattle.clock_terms.specs.Nodes.{Node, is_clause, is_of_clause, leading_clock, side_mentions, side_cuts, cut_node, cut_nodes, own_node, nodes_of_equation, nodes_from}
 use Rattle.flat_model.specs.Models.{clause_of}
 use Rattle.clock_terms.specs.Gathered.{with_mention, with_mentions, with_name, with_relation, with_cause, with_clause, with_lead, with_place, with_node, with_nodes, with_cuts, next_number, lead_from, IsClauseBelow, clock_names}
-use Rattle.clock_terms.specs.gathering.Leads.{lead_by, leads_with, clock_by, clock_at, has_lead, AreLeads, HaveBegun}
+use Rattle.clock_terms.specs.private.Leads.{lead_by, leads_with, clock_by, clock_at, has_lead, AreLeads, HaveBegun}
 use Rattle.flat_model.specs.declared.model.NameKind.{NameKind}
 use Rattle.flat_model.specs.declared.model.NameKind.TheVariants as kind
 

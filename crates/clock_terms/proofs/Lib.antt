@@ -9,5 +9,5 @@ pub mod Adding
 pub mod Joining
 pub mod Marking
 pub mod Listing
-pub mod Telling
+pub mod Converting
 pub mod Whole

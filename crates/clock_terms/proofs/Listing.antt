@@ -12,7 +12,7 @@ use Rattle.clock_terms.specs.Mentions.{Mention, Stands, Ticks, Samples, Holds, C
 use Rattle.clock_terms.specs.Nodes.{Node, nodes_of, entry}
 use Rattle.clock_terms.specs.Listed.{of_nodes, constructors_by, relation_by, relations_by, constructors_of, relations_of}
 use Rattle.clock_terms.specs.Gathered.{with_join, with_clocked, with_unclocked, with_entry, with_mention, with_name, with_relation, with_cause, with_clause, with_lead, with_place, with_node, with_nodes, next_number, lead_from, start_of, terms_of}
-use Rattle.clock_terms.specs.gathering.Added.{holds_by, conversions_by}
+use Rattle.clock_terms.specs.private.Added.{holds_by, conversions_by}
 use Rattle.clock_terms.proofs.Leading.{nodes_node}
 use Rattle.clock_terms.proofs.Adding.{by_mentions}
 

@@ -11,7 +11,7 @@ use Rattle.clock_terms.specs.Mentions.{Mention, Stands, Ticks, Samples, Holds, C
 use Rattle.clock_terms.specs.Nodes.{Node, nodes_of}
 use Rattle.clock_terms.specs.Gathered.{terms_of, clock_names}
 use Rattle.clock_terms.specs.Said.{IsNode, numbered, IsNamed, IsJoined, NeedsClock, TakesLast, IsMarkedClocked, IsHold, IsInput, IsMarkedUnclocked}
-use Rattle.clock_terms.specs.gathering.Added.{adds, number_after, clocked_by, clause_marks, clocked_step, input_marks, name_marks, unclocked_by, cause_marks, unclocked_step}
+use Rattle.clock_terms.specs.private.Added.{adds, number_after, clocked_by, clause_marks, clocked_step, input_marks, name_marks, unclocked_by, cause_marks, unclocked_step}
 use Rattle.clock_terms.proofs.Adding.{clocked_are, unclocked_are}
 use Rattle.clock_terms.proofs.Joining.{cons_cases, here, there, in_none, in_one, from_flat, to_flat, earlier, from_adds, to_adds, count_earlier, pair_step}
 

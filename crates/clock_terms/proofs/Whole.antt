@@ -10,7 +10,7 @@ use Rattle.clock_terms.specs.Said.{AreTermsOf, SayTheSame}
 use Rattle.clock_terms.proofs.Leading.{nodes_node}
 use Rattle.clock_terms.proofs.Joining.{joined_class, class_joined}
 use Rattle.clock_terms.proofs.Listing.{constructors_are, relations_are}
-use Rattle.clock_terms.proofs.Telling.{holds_hold, hold_holds, conversions_converted, converted_conversions}
+use Rattle.clock_terms.proofs.Converting.{holds_hold, hold_holds, conversions_converted, converted_conversions}
 use Rattle.clock_terms.proofs.Marking.{clocked_marked, marked_clocked, unclocked_marked, marked_unclocked, joins_below}
 
 nodes_more : (names : List FlatName) (t : Terms) (nodes : List Node) → (with_nodes names t nodes).nodes ≡ t.nodes ++ map entry nodes

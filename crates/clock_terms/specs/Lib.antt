@@ -9,5 +9,5 @@ pub mod Least
 pub mod Listed
 pub mod Gathered
 pub mod Classing
-pub mod gathering
 pub mod Laws
+pub mod private

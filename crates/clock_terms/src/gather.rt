@@ -7,16 +7,15 @@ ghost use Rattle.clock_terms.specs.Mentions.{clock_mentions, clock_cuts};
 ghost use Rattle.clock_terms.specs.Nodes.{side_mentions, side_cuts, nodes_of_equation, nodes_from};
 ghost use Rattle.flat_model.specs.Models.{clause_of};
 ghost use Rattle.clock_terms.specs.Gathered.{with_mentions, with_cuts, with_nodes, next_number, IsClauseBelow, HaveClauses, clock_names, start_of, terms_of};
-ghost use Rattle.clock_terms.specs.gathering.Leads.{clock_at, leads_with, AreLeads, HaveBegun};
+ghost use Rattle.clock_terms.specs.private.Leads.{clock_at, leads_with, AreLeads, HaveBegun};
 
 use crate::cut::{clock_parts, parts};
 use crate::data::Terms;
 use crate::node::own_node;
 use crate::walk::{At, walk, walk_clock};
 use flat_model::{ClockExpr, Equation, FlatModel, FlatName, NameKind};
-use mo_connect::NoMemory;
 use std::alloc::{AllocError, Global};
-use sync_values::List;
+use sync_values::{List, NoMemory};
 
 fn clause_number(equation: &Equation) -> Option<u32>
     ensures { result ≡ clause_of equation.now }

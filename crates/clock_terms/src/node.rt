@@ -2,7 +2,7 @@
 ghost use Rattle.std.specs.Prelude.{◌≡◌, ◌+◌, ◌<◌, length, List, IfOk, OnOk, Some, None, [], ◌∷◌, ◌++◌};
 ghost use Rattle.clock_terms.specs.declared.data.Terms.{Terms};
 ghost use Rattle.clock_terms.specs.Gathered.{with_place, with_clause, with_cause, with_entry, next_number, lead_from, IsClauseBelow};
-ghost use Rattle.clock_terms.specs.gathering.Leads.{AreLeads, leads_with};
+ghost use Rattle.clock_terms.specs.private.Leads.{AreLeads, leads_with};
 
 use crate::data::{Cause, NodeOf, Terms};
 use crate::walk::At;

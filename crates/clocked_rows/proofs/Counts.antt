@@ -10,7 +10,7 @@ use Rattle.flat_model.specs.declared.expression.Expr.TheVariants.{Const, Chain, 
 use Rattle.flat_model.specs.declared.clock.ClockExpr.TheOpen.{Expr-F}
 use Rattle.flat_model.specs.declared.clock.ClockExpr.TheFolds.{fold-roll-Expr}
 use Rattle.flat_model.specs.Occurrences.{is_sum, one_if, bare_in_level, held_in_level, converted_in_level, reached_in_level, bare_count, held_count, converted_count, is_reached}
-use Rattle.flat_model.specs.Parts.{Way, way_through, way_to}
+use Rattle.flat_model.specs.Ways.{Way, way_through, way_to}
 use Rattle.flat_model.proofs.Levels.{bare_count-Const, bare_count-Read, bare_count-Previous, bare_count-Chain, held_count-Const, held_count-Read, held_count-Previous, held_count-Chain, converted_count-Const, converted_count-Read, converted_count-Previous, converted_count-Chain, is_reached-Read, way_to-Const, way_to-Read, way_to-Previous, way_to-Chain}
 
 pub is_reached-Const : (x : ℕ) (v : Value) → is_reached x (Const v) ≡ false

@@ -5,13 +5,6 @@ use Rattle.command_answer.specs.Calls.{Outside}
 use Rattle.command_stages.specs.Reading.{IsStepOf, KeepsShelf}
 
 module _ (held held' held'' : Option Files) (empty empty' empty'' : Bool) (f g h : List ℕ → ℕ) (one : KeepsShelf held held' empty empty' f g) (two : KeepsShelf held' held'' empty' empty'' g h) where
-  pub keeps_both : KeepsShelf held held'' empty empty'' f h
-  keeps_both = record {
-    holds = two.holds ∙ one.holds;
-    flag = two.flag ∙ one.flag;
-    counts = λ name. let low = one.counts name in let high = two.counts name in omega (arith, low, high);
-  }
-
   module _ (o : Outside) (step : IsStepOf o held empty f h) where
     pub first_step : IsStepOf o held empty f g
     first_step = record {

@@ -5,19 +5,19 @@ use Rattle.command_words.specs.declared.command.UsageFault.{UsageFault}
 use Rattle.command_answer.specs.declared.status.Status.{Status}
 use Rattle.command_answer.specs.declared.status.Status.TheVariants.{Usage, ReadFault, WriteFault, NoMemory}
 use Rattle.command_answer.specs.Actions.{IsAnswer}
-use Rattle.command_answer.specs.Calls.{Outside, TellsFiles, ReadRose, WriteRose, GrewBoth, EndsWith, files_of, IsNamed, IsQuiet, IsRight, Answers}
+use Rattle.command_answer.specs.Calls.{Outside, KnowsFiles, ReadRose, WriteRose, GrewBoth, EndsWith, files_of, IsNamed, IsQuiet, IsRight, Answers}
 use Rattle.command_answer.specs.Stages.{Answer}
 use Rattle.command_stages.specs.Reading.{KeepsShelf}
 
 -- the call of the program on these words, over the files and the two sinks of an outside, ends with this status
 pub record TopCall (words : List (List ℕ)) (o : Outside) (status : Status) : Type 0 where
-  -- where the files are told and no count of faults rose, the call gives the answer to the words, or memory was refused and out stayed
-  pub complete : TellsFiles o → IsQuiet words o → Answers words o status ⊎ ((status ≡ NoMemory) × (o.out.new ≡ o.out.old))
+  -- where the files are known and no count of faults rose, the call gives the answer to the words, or memory was refused and out stayed
+  pub complete : KnowsFiles o → IsQuiet words o → Answers words o status ⊎ ((status ≡ NoMemory) × (o.out.new ≡ o.out.old))
   -- and whatever answer the words have is the one that is printed, unless memory was refused
-  pub printed : TellsFiles o → IsQuiet words o → status ≢ NoMemory → (answer : Answer) → IsAnswer (files_of o) words answer → (status ≡ answer.status) × GrewBoth o.out o.err answer.out answer.err
-  -- where the files are told each status but those of a fault outside and of memory is an answer, also where a count rose
-  pub only : TellsFiles o → (status ≢ ReadFault) → (status ≢ WriteFault) → (status ≢ NoMemory) → Answers words o status
-  -- whether or not the files are told, the call ends with an answer to what was read, or a sink failed in the midst of it
+  pub printed : KnowsFiles o → IsQuiet words o → status ≢ NoMemory → (answer : Answer) → IsAnswer (files_of o) words answer → (status ≡ answer.status) × GrewBoth o.out o.err answer.out answer.err
+  -- where the files are known each status but those of a fault outside and of memory is an answer, also where a count rose
+  pub only : KnowsFiles o → (status ≢ ReadFault) → (status ≢ WriteFault) → (status ≢ NoMemory) → Answers words o status
+  -- whether or not the files are known, the call ends with an answer to what was read, or a sink failed in the midst of it
   pub ends : EndsWith (IsRight words o) o status
   -- refused words are answered as such, unless memory was refused or err failed
   pub refuses : (fault : UsageFault) → IsUsage words fault → (status ≡ Usage) ⊎ (status ≡ NoMemory) ⊎ WriteRose o.err

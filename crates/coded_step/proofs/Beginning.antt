@@ -4,7 +4,7 @@ use Rattle.std.proofs.lemmas.Option.{none-some, same_Some}
 use Rattle.flat_model.specs.declared.equation.Equation.{Equation}
 use Rattle.flat_model.specs.declared.equation.Equation.TheVariants.{Valued, Clocks}
 use Rattle.flat_model.specs.declared.expression.Expr.{Expr}
-use Rattle.flat_model.specs.Answers.{value_in}
+use Rattle.flat_model.specs.Values.{value_in}
 use Rattle.flat_model.specs.Asks.{Asking, AsksFor, OfNow, OfLast, OfPrevious, asked}
 use Rattle.flat_model.specs.Assignment.{Assignment, previous_value}
 use Rattle.flat_model.specs.Given.{Row}
@@ -24,7 +24,7 @@ use Rattle.tree_step.specs.declared.frame.ClockNow.{ClockNow}
 use Rattle.tree_step.specs.declared.taking.Entry.{Entry}
 use Rattle.tree_step.specs.Cells.{cell_in}
 use Rattle.tree_step.specs.Starts.{Sight, use_of, uses_of, IsAmong, KeepsLast, IsSideSeen, AreSidesSeen, IsEntry}
-use Rattle.part_words.specs.Setting.{IsKeptFor, AreKeysTold}
+use Rattle.part_words.specs.SetWords.{IsKeptFor, AreKeysShown}
 use Rattle.part_code.specs.declared.coded.Coded.{Coded}
 use Rattle.part_code.specs.Coded.{IsSideOf, IsCodeOf}
 use Rattle.undone_side.specs.Undone.{IsSolvedSide}
@@ -167,5 +167,5 @@ module _ (s : Setting) (uses before after : List Use) (partition : ℕ) (S : Ass
       | inr read ↦ (start.samples by.entry by.side by.among by.of).last x k (keys_asked by.side by.entry.clock Now (key.LeftLast x) read) later
     ]
 
-    pub keys_told : (k : ℕ) → m ≡ suc k → AreKeysTold s S m base sight cells code.keys
+    pub keys_told : (k : ℕ) → m ≡ suc k → AreKeysShown s S m base sight cells code.keys
     keys_told k later = record { value = value_kept; previous = before_kept; left = left_told; left_last = last_told k later }

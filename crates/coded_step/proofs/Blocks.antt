@@ -18,16 +18,16 @@ use Rattle.side_theory.specs.Kept.{IsClockSet}
 use Rattle.part_stretches.specs.declared.running.ClassStretch.{ClassStretch}
 use Rattle.part_stretches.specs.Parts.{Block, entries_of, AreAlike}
 use Rattle.part_stretches.specs.Running.{tick_in}
-use Rattle.whole_runs.specs.Lines.{AreTelling}
-use Rattle.whole_runs.specs.Whole.{AreCoded, AreToldBy}
+use Rattle.whole_runs.specs.Lines.{AreExpressing}
+use Rattle.whole_runs.specs.Whole.{AreCoded, AreShownBy}
 use Rattle.tree_step.specs.declared.cell.Cell.{Cell}
 use Rattle.tree_step.specs.declared.taking.Entry.{Entry}
-use Rattle.tree_step.specs.Starts.{Sight, use_of, uses_of, IsAmong, IsClockTold}
+use Rattle.tree_step.specs.Starts.{Sight, use_of, uses_of, IsAmong, IsClockShown}
 use Rattle.part_words.specs.Words.{AreFilled}
-use Rattle.part_words.proofs.Setting.{words_set}
+use Rattle.part_words.proofs.SetWords.{words_set}
 use Rattle.part_code.specs.declared.coded.Coded.{Coded}
 use Rattle.part_code.specs.Coded.{IsSideOf, AreLinesFor, AreStretchesOf, IsCodeOf}
-use Rattle.coded_step.specs.Landing.{ticking_of}
+use Rattle.coded_step.specs.private.Landing.{ticking_of}
 use Rattle.coded_step.specs.Taking.{IsCodeStart}
 use Rattle.coded_step.proofs.Beginning.{ordered, is_entry, among_member, keys_told}
 use Rattle.coded_step.proofs.Telling.{tells, typed_line}
@@ -108,9 +108,9 @@ module _ (s : Setting) (uses before after : List Use) (partition : ℕ) (S : Ass
   model_found : (e : Entry) (side : Expr) (of : IsSideOf sight.equations e side) → slice_get s.model.equations e.equation ≡ Some of.equation
   model_found e side of = ap (λ qs. slice_get qs e.equation) (sym start.start.model) ∙ of.found
 
-  -- lines of entries of one clock tell of uses of one class
+  -- lines of entries of one clock express uses of one class
   lines_of : (first : Entry) → IsAmong first entries → (place : ℕ) → first.clock ≡ place → (es : List Entry) (ls : List Line) → ((e : Entry) → IsAmong e es → IsAmong e entries) → AreLinesFor sight.equations place es ls
-      → AreTelling s uses (class_of first) (uses_of es) ls × AreTypedLines s ls
+      → AreExpressing s uses (class_of first) (uses_of es) ls × AreTypedLines s ls
   lines_of first first_among place first_place [] [] within are = (tt, tt)
   lines_of first first_among place first_place [] (l ∷ ls) within are = absurd are
   lines_of first first_among place first_place (e ∷ es) [] within are = absurd are
@@ -164,7 +164,7 @@ module _ (s : Setting) (uses before after : List Use) (partition : ℕ) (S : Ass
         coded behind (λ e h. within e (subst (IsAmong e) (sym es_are) (among_behind (first ∷ front) behind e h))) rest others,
       )
 
-  -- what is told of the clock of an entry
+  -- what is shown of the clock of an entry
   pub ticks_told : (e : Entry) → (among : IsAmong e entries) → tick_in (ticking_of sight.clocks) e.clock ≡ class_ticks s (with_row S m base) (class_of_equation s e.equation) m
   ticks_told e among = let entry = is_entry s uses before after partition S m base sight entries cells start e among in tick_found sight.clocks e.clock entry.clock entry.clock_found ∙ entry.told.ticks
 
@@ -174,9 +174,9 @@ module _ (s : Setting) (uses before after : List Use) (partition : ℕ) (S : Ass
         let entry = is_entry s uses before after partition S m base sight entries cells start e among in
         (words_set s S m base sight cells code.keys words is.whole (keys_told s uses before after partition S m base sight entries cells start code is k later) filled e.clock).1
         (class_of e) entry.clock entry.clock_found (sym (tick_found sight.clocks e.clock entry.clock entry.clock_found) ∙ tick)
-        (subst (λ c. IsClockTold s S m base c entry.clock) (class_is e among) entry.told)
+        (subst (λ c. IsClockShown s S m base c entry.clock) (class_is e among) entry.told)
 
-    pub told : (es : List Entry) → ((e : Entry) → IsAmong e es → IsAmong e entries) → (stretches : List ClassStretch) (are : AreStretchesOf sight.equations s.model.names code.keys es stretches) → AreToldBy s S m base (ticking_of sight.clocks) t words stretches (blocks_of es stretches are)
+    pub told : (es : List Entry) → ((e : Entry) → IsAmong e es → IsAmong e entries) → (stretches : List ClassStretch) (are : AreStretchesOf sight.equations s.model.names code.keys es stretches) → AreShownBy s S m base (ticking_of sight.clocks) t words stretches (blocks_of es stretches are)
     told es within [] none = tt
     told es within (one ∷ rest) (first, front, behind, es_are, of, others) =
         let among = within first (subst (IsAmong first) (sym es_are) (inl refl)) in

@@ -32,11 +32,11 @@ use Rattle.tree_step.specs.Cells.{cell_in, cell_from, own_cell}
 use Rattle.tree_step.specs.Starts.{Sight, use_of, uses_of, IsAmong}
 use Rattle.tree_step.specs.Takes.{IsSameCell, HasTaken}
 use Rattle.part_words.specs.Words.{AreFilled}
-use Rattle.part_words.proofs.Setting.{words_set}
+use Rattle.part_words.proofs.SetWords.{words_set}
 use Rattle.part_code.specs.declared.coded.Coded.{Coded}
 use Rattle.part_code.specs.declared.coded.Landing.{Landing}
 use Rattle.part_code.specs.Coded.{IsCodeOf, IsLandingOf}
-use Rattle.coded_step.specs.Landing.{ticking_of, value_from, value_by, value_in_place, value_of, with_value, AreLanded}
+use Rattle.coded_step.specs.private.Landing.{ticking_of, value_from, value_by, value_in_place, value_of, with_value, AreLanded}
 use Rattle.coded_step.specs.Taking.{IsCodeStart, TakesByCode}
 use Rattle.coded_step.proofs.Beginning.{ordered, begins, is_entry, among_at, among_member, keys_told}
 use Rattle.coded_step.proofs.Blocks.{blocks_of, entries_are, coded, told, ticks_told}

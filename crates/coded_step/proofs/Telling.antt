@@ -1,4 +1,4 @@
--- The side that is solved for a use's name tells of the use.
+-- The side that is solved for a use's name expresses the use.
 use Rattle.std.proofs.Common.{◌≡◌, refl, ap, sym, subst, ◌∙◌, ℕ, ◌<◌, List, Some, slice_get, Contains, Ok, ◌⊎◌, inl, inr, arith}
 use Rattle.std.specs.Prelude.{option_map}
 use Rattle.std.proofs.lemmas.Option.{same_Some, none-some}
@@ -40,7 +40,7 @@ use Rattle.step_code.specs.Lines.{Line}
 use Rattle.undone_side.specs.Undone.{IsFitting, IsSolvedSide, IsSideKnown}
 use Rattle.undone_side.proofs.Kept.{side_known}
 use Rattle.undone_side.proofs.Values.{solved}
-use Rattle.whole_runs.specs.Lines.{IsCounted, Tells}
+use Rattle.whole_runs.specs.Lines.{IsCounted, Expresses}
 
 same_self : (views : Views) (d : ℕ) (q : Asking) → IsSameAt views views d q
 same_self views d (OfNow y) = refl
@@ -166,12 +166,12 @@ module _ (s : Setting) (uses : List Use) (runs : IsRunnable s) (are : AreUses s 
           let type_is : is.type ≡ counted.name.kind = same_type counted.name.kind is.type (sym (ap (λ o. valued_type (option_map (λ n. n.kind) o)) can.name_is) ∙ is.name_type) in
           subst (λ k. IsAnswerOfKind k (value_of side here)) type_is (same_answer is.type (value_of side here) (typed_value (types_in s.model.names) side is.type here typed_at is.side_type))
 
-    own_tells : (side : Expr) → IsSolvedSide x own side → Tells s entry side class
+    own_tells : (side : Expr) → IsSolvedSide x own side → Expresses s entry side class
     own_tells side solves = record {
       class_is = class_is;
       answers = λ S m row counted. subst (λ c. IsAnswerOfKind counted.name.kind (value_of side (views_at s (with_row S m row) c m))) class_is (answers side solves S m row counted);
       gives = λ S m row counted v v_is. gives side solves S m row counted v (ap (λ c. value_of side (views_at s (with_row S m row) c m)) class_is ∙ v_is);
     }
 
-    pub tells : (equation : Equation) (side : Expr) → slice_get s.model.equations i ≡ Some equation → IsSolvedSide x equation side → Tells s entry side class
+    pub tells : (equation : Equation) (side : Expr) → slice_get s.model.equations i ≡ Some equation → IsSolvedSide x equation side → Expresses s entry side class
     tells equation side found solves = own_tells side (solves_own equation side found solves)

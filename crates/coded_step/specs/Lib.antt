@@ -1,2 +1,2 @@
-pub mod Landing
 pub mod Taking
+pub mod private

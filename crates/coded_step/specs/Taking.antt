@@ -1,7 +1,7 @@
 -- What the code of a base partition's uses does at a moment. This project's own.
 use Rattle.std.specs.Prelude.{◌≡◌, ℕ, suc, List, vec_len, Some, None, slice_get, Contains, All}
 use Rattle.flat_model.specs.declared.expression.Expr.{Expr}
-use Rattle.flat_model.specs.Answers.{value_in}
+use Rattle.flat_model.specs.Values.{value_in}
 use Rattle.flat_model.specs.Asks.{AsksFor, OfNow, OfLast}
 use Rattle.flat_model.specs.Assignment.{Assignment, previous_value}
 use Rattle.flat_model.specs.Given.{Row}
@@ -15,7 +15,7 @@ use Rattle.tree_step.specs.Takes.{HasTaken}
 use Rattle.part_code.specs.declared.coded.Coded.{Coded}
 use Rattle.part_code.specs.Coded.{IsSideOf, IsCodeOf}
 
--- what a side samples is told by the values at the moment before
+-- what a side samples is shown by the values at the moment before
 pub record IsSampledBy (s : Setting) (S : Assignment) (m : ℕ) (sight : Sight) (side : Expr) : Type 0 where
   pub now : (y k : ℕ) → AsksFor side 1 (OfNow y) → m ≡ suc k → value_in sight.left.now y ≡ S y k
   pub last : (z k : ℕ) → AsksFor side 1 (OfLast z) → m ≡ suc k → slice_get sight.left.last z ≡ previous_value (name_ticks s S z) (S z) (start_of s z) m

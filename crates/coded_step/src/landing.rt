@@ -2,7 +2,7 @@
 ghost use Rattle.std.specs.Prelude.{◌≡◌, ℕ, ◌<◌, Some, length, slice_get};
 ghost use Rattle.tree_step.specs.declared.taking.Entry.{Entry};
 ghost use Rattle.part_code.specs.declared.coded.Landing.{Landing};
-ghost use Rattle.coded_step.specs.Landing as spec;
+ghost use Rattle.coded_step.specs.private.Landing as spec;
 
 use crate::running::ticks_at;
 use part_code::Landing;

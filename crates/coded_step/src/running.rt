@@ -1,7 +1,7 @@
-//! The stretches of a base partition, by the clocks that are told.
+//! The stretches of a base partition, by the clocks that are shown.
 ghost use Rattle.std.specs.Prelude.{◌≡◌, true, None, length, All};
 ghost use Rattle.part_stretches.specs.Running.{tick_in, IsRunWithin, RunsFrom};
-ghost use Rattle.coded_step.specs.Landing.{ticking_of};
+ghost use Rattle.coded_step.specs.private.Landing.{ticking_of};
 
 use part_stretches::ClassStretch;
 use step_lines::run_lines;

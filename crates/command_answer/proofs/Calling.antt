@@ -2,7 +2,7 @@
 use Rattle.std.proofs.Common.{◌≡◌, ◌≢◌, refl, ap, sym, subst, ◌∙◌, ℕ, ◌⊎◌, inl, inr, true, false, List, [], Option, Some, None, Ok, Err}
 use Rattle.outside_io.specs.Texts.{grown}
 use Rattle.outside_io.proofs.Growth.{grown-nil}
-use Rattle.outside_io.specs.Files.{File, told, told_of, first_named, IsWhole}
+use Rattle.outside_io.specs.Files.{File, known, known_of, first_named, IsWhole}
 use Rattle.command_words.specs.Answer.{IsCommand, IsUsage}
 use Rattle.command_words.specs.Choice.{Choice}
 use Rattle.command_words.specs.Lines.{usage_line}
@@ -13,8 +13,8 @@ use Rattle.command_words.proofs.OneChoice as words_once
 use Rattle.flat_model.specs.declared.model.FlatModel.{FlatModel}
 use Rattle.command_answer.specs.declared.status.Status.{Status}
 use Rattle.command_answer.specs.declared.status.Status.TheVariants.{Usage, ReadFault, WriteFault, NoMemory}
-use Rattle.command_answer.specs.Actions.{model_file, source_in, model_of, table_of, setting_of, in_mode, actions, told_files, IsAnswer}
-use Rattle.command_answer.specs.Calls.{Outside, files_of, TellsFiles, ReadRose, WriteRose, GrewBoth, read_fault, reads_in, EndsWith, whole, out_failed, err_failed, IsQuiet, IsRight, Answers, CallLaw, PrintedLaw}
+use Rattle.command_answer.specs.Actions.{model_file, source_in, model_of, table_of, setting_of, in_mode, actions, known_files, IsAnswer}
+use Rattle.command_answer.specs.Calls.{Outside, files_of, KnowsFiles, ReadRose, WriteRose, GrewBoth, read_fault, reads_in, EndsWith, whole, out_failed, err_failed, IsQuiet, IsRight, Answers, CallLaw, PrintedLaw}
 use Rattle.command_answer.specs.Layers.{asked}
 use Rattle.command_answer.specs.Stages.{Answer, Stage, ◌>>=◌, always, layer, usage_answer}
 use Rattle.command_answer.proofs.OneAnswer.{one_answer}
@@ -74,35 +74,35 @@ module _ (P : Answer → Type 0) where
       (λ flat m. under_mode reads reads' c (λ file at. files c is file (inl at)) (λ file at. files c is file (inr at)) c.mode flat))
 
 module _ (words : List (List ℕ)) (o : Outside) where
-  -- what was read whole from files that are told is what is told
-  told_bytes : TellsFiles o → (name bytes : List ℕ) → IsWhole (files_of o name) bytes → files_of o name ≡ File bytes
+  -- what was read whole from files that are known is what is known
+  told_bytes : KnowsFiles o → (name bytes : List ℕ) → IsWhole (files_of o name) bytes → files_of o name ≡ File bytes
   told_bytes (files, held) name bytes is =
-      ap (λ h. told h o.empty name) held ∙ whole_is o.empty (first_named name files) (subst (λ h. IsWhole (told h o.empty name) bytes) held is)
+      ap (λ h. known h o.empty name) held ∙ whole_is o.empty (first_named name files) (subst (λ h. IsWhole (known h o.empty name) bytes) held is)
     where
-      whole_is : (empty : _) (found : Option (List ℕ)) → IsWhole (told_of empty found) bytes → told_of empty found ≡ File bytes
+      whole_is : (empty : _) (found : Option (List ℕ)) → IsWhole (known_of empty found) bytes → known_of empty found ≡ File bytes
       whole_is empty (Some file) is = ap File (sym is)
       whole_is true None is = ap File (sym is)
       whole_is false None is = absurd is
 
-  told_under : (P : Answer → Type 0) → TellsFiles o → (name : List ℕ) → (P (read_fault name) → ReadRose o name → ⊥) → Under P (reads_in o name) (told_files (files_of o) name)
-  unfolding reads_in told_files always
+  told_under : (P : Answer → Type 0) → KnowsFiles o → (name : List ℕ) → (P (read_fault name) → ReadRose o name → ⊥) → Under P (reads_in o name) (known_files (files_of o) name)
+  unfolding reads_in known_files always
   told_under P tells name none = record { makes = λ bytes is. told_bytes tells name bytes is; ends = λ a p (rose, e). none (subst P e p) rose }
 
-  answer_is : TellsFiles o → (a : Answer) → (a.status ≢ ReadFault) → (actions (reads_in o) words).ends a → IsAnswer (files_of o) words a
-  answer_is tells a other e = (under (λ b. b.status ≢ ReadFault) words (reads_in o) (told_files (files_of o)) (λ c is name at. told_under _ tells name (λ p rose. p refl))).ends a other e
+  answer_is : KnowsFiles o → (a : Answer) → (a.status ≢ ReadFault) → (actions (reads_in o) words).ends a → IsAnswer (files_of o) words a
+  answer_is tells a other e = (under (λ b. b.status ≢ ReadFault) words (reads_in o) (known_files (files_of o)) (λ c is name at. told_under _ tells name (λ p rose. p refl))).ends a other e
 
-  quiet_is : TellsFiles o → IsQuiet words o → (a : Answer) → (actions (reads_in o) words).ends a → IsAnswer (files_of o) words a
+  quiet_is : KnowsFiles o → IsQuiet words o → (a : Answer) → (actions (reads_in o) words).ends a → IsAnswer (files_of o) words a
   quiet_is tells quiet a e =
-      (under (λ b. Unit {0}) words (reads_in o) (told_files (files_of o)) (λ c is name at. told_under _ tells name (λ p rose. quiet.reads name (c, is, at) rose))).ends a tt e
+      (under (λ b. Unit {0}) words (reads_in o) (known_files (files_of o)) (λ c is name at. told_under _ tells name (λ p rose. quiet.reads name (c, is, at) rose))).ends a tt e
 
-  completes : (status : Status) → EndsWith (IsRight words o) o status → TellsFiles o → IsQuiet words o → Answers words o status ⊎ ((status ≡ NoMemory) × (o.out.new ≡ o.out.old))
+  completes : (status : Status) → EndsWith (IsRight words o) o status → KnowsFiles o → IsQuiet words o → Answers words o status ⊎ ((status ≡ NoMemory) × (o.out.new ≡ o.out.old))
   completes status (whole a (inl e) is grew) tells quiet = inl (a, quiet_is tells quiet a e, is, grew)
   completes status (whole a (inr e) is grew) tells quiet =
       inr (is ∙ ap (λ (b : Answer). b.status) e, grew.out_grew ∙ ap (λ (b : Answer). grown b.out o.out.old) e ∙ grown-nil o.out.old)
   completes status (out_failed a right is failed) tells quiet = absurd (quiet.outs failed.rose)
   completes status (err_failed a right is failed) tells quiet = absurd (quiet.errs failed.rose)
 
-  only_answers : (status : Status) → EndsWith (IsRight words o) o status → TellsFiles o → (status ≢ ReadFault) → (status ≢ WriteFault) → (status ≢ NoMemory) → Answers words o status
+  only_answers : (status : Status) → EndsWith (IsRight words o) o status → KnowsFiles o → (status ≢ ReadFault) → (status ≢ WriteFault) → (status ≢ NoMemory) → Answers words o status
   only_answers status (whole a (inl e) is grew) tells read write memory = (a, answer_is tells a (λ f. read (is ∙ f)) e, is, grew)
   only_answers status (whole a (inr e) is grew) tells read write memory = absurd (memory (is ∙ ap (λ (b : Answer). b.status) e))
   only_answers status (out_failed a right is failed) tells read write memory = absurd (write is)

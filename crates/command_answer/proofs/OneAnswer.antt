@@ -1,6 +1,6 @@
 -- Words have one answer, since each stage of the command has.
 use Rattle.std.proofs.Common.{◌≡◌, sym, subst, map, ◌∙◌, ℕ, List, Option, Some, None, Ok}
-use Rattle.outside_io.specs.Files.{Told, File}
+use Rattle.outside_io.specs.Files.{Known, File}
 use Rattle.command_words.specs.Choice.{Choice}
 use Rattle.command_words.specs.declared.command.Mode.{Mode}
 use Rattle.command_words.specs.declared.command.Mode.TheVariants.{Run, Flat, Clocks, Stress}
@@ -19,7 +19,9 @@ use Rattle.trace_print.specs.Modes.{flat_text, clocks_text}
 use Rattle.class_scopes.specs.Reached.{chosen_by}
 use Rattle.flat_limits.proofs.Limits.{flat_limits}
 use Rattle.typed_model.proofs.Models.{typed_is_model}
-use Rattle.command_answer.specs.Actions.{model_limit, table_limit, source_in, model_of, table_of, setting_of, in_mode, actions, told_files, OneAnswerLaw}
+use Rattle.mo_lexer.specs.Tokens.{model_limit}
+use Rattle.input_table.specs.Tables.{table_limit}
+use Rattle.command_answer.specs.Actions.{source_in, model_of, table_of, setting_of, in_mode, actions, known_files, OneAnswerLaw}
 use Rattle.command_answer.specs.Layers.{lexed, parsed, flattened, typed, tabled, untabled, ordered, Orders}
 use Rattle.command_answer.specs.Stages.{Stage, ◌>>=◌, always, layer, printed}
 use Rattle.command_answer.proofs.Clocks.{clocking_one, is_answered}
@@ -91,9 +93,9 @@ module _ (reads : List ℕ → Stage (List ℕ)) (files : (name : List ℕ) → 
   unfolding actions
   actions_one words = both_one _ _ (asked_one words) (λ c m. both_one _ _ (model_one c) (λ flat n. mode_one c.mode c flat (is_model c flat n)))
 
-told_one : (told : List ℕ → Told) (name : List ℕ) → IsOne (told_files told name)
-unfolding told_files
+told_one : (told : List ℕ → Known) (name : List ℕ) → IsOne (known_files told name)
+unfolding known_files
 told_one told name = always_one _ (λ x y p q. let same : File x ≡ File y = sym p ∙ q in cc)
 
 pub one_answer : OneAnswerLaw
-one_answer told words = (actions_one (told_files told) (told_one told) words).one_end
+one_answer told words = (actions_one (known_files told) (told_one told) words).one_end

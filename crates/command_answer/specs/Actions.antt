@@ -1,6 +1,6 @@
 -- The answer of a command: what it does, stage by stage, up to the one that ends it. This project's own.
 use Rattle.std.specs.Prelude.{◌≡◌, ℕ, ◌≤◌, ◌⊎◌, List, [], length, Option, Some, None}
-use Rattle.outside_io.specs.Files.{Told, File}
+use Rattle.outside_io.specs.Files.{Known, File}
 use Rattle.sync_values.specs.declared.value.Fail.{Fail}
 use Rattle.command_words.specs.Choice.{Choice}
 use Rattle.command_words.specs.declared.command.Mode.{Mode}
@@ -19,17 +19,11 @@ use Rattle.flat_model.specs.Trace.{trace_text}
 use Rattle.trace_print.specs.Modes.{flat_text, clocks_text}
 use Rattle.stress_sums.specs.Sums.{stress_lines}
 use Rattle.stress_text.specs.Text.{stress_text}
+use Rattle.mo_lexer.specs.Tokens.{model_limit}
+use Rattle.input_table.specs.Tables.{table_limit}
 use Rattle.command_answer.specs.declared.status.Status.TheVariants.{Done, Faulted}
 use Rattle.command_answer.specs.Layers.{asked, few, lexed, parsed, flattened, typed, termed, classed, solved, checked, ordered, tabled, untabled, counted, timed}
 use Rattle.command_answer.specs.Stages.{Answer, Stage, ◌>>=◌, ◌>>◌, always, ends_with, printed}
-
--- the most bytes of a model
-abbrev pub model_limit : ℕ
-model_limit = 1048576
-
--- the most bytes of a table
-abbrev pub table_limit : ℕ
-table_limit = 16777216
 
 -- a run puts its whole trace on out, or the rows before its first fault
 abbrev pub Runs : Setting → Answer → Type 0
@@ -120,14 +114,14 @@ module _ (reads : List ℕ → Stage (List ℕ)) where
     flat ← model_of c
     in_mode c.mode c flat
 
--- files that are read as they are told
-unfoldable pub told_files : (List ℕ → Told) → List ℕ → Stage (List ℕ)
-told_files told name = always (λ bytes. told name ≡ File bytes)
+-- files that are read as they are known
+unfoldable pub known_files : (List ℕ → Known) → List ℕ → Stage (List ℕ)
+known_files known name = always (λ bytes. known name ≡ File bytes)
 
--- the answer of words, over the files that are told
-abbrev pub IsAnswer : (List ℕ → Told) → List (List ℕ) → Answer → Type 0
-IsAnswer told words answer = (actions (told_files told) words).ends answer
+-- the answer of words, over the files that are known
+abbrev pub IsAnswer : (List ℕ → Known) → List (List ℕ) → Answer → Type 0
+IsAnswer known words answer = (actions (known_files known) words).ends answer
 
--- two answers of words, over the files that are told, are one
+-- two answers of words, over the files that are known, are one
 abbrev pub OneAnswerLaw : Type 0
-OneAnswerLaw = (told : List ℕ → Told) (words : List (List ℕ)) (a b : Answer) → IsAnswer told words a → IsAnswer told words b → a ≡ b
+OneAnswerLaw = (known : List ℕ → Known) (words : List (List ℕ)) (a b : Answer) → IsAnswer known words a → IsAnswer known words b → a ≡ b

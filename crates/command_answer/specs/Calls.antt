@@ -1,7 +1,7 @@
 -- What a call does on the outside: it ends with the right answer, or a file or a sink failed. This project's own.
 use Rattle.std.specs.Prelude.{◌≡◌, ◌≢◌, ℕ, ◌⊎◌, Bool, List, [], ◌++◌, Option, Some, codes}
 use Rattle.outside_io.specs.Counts.{Rose}
-use Rattle.outside_io.specs.Files.{Files, Told, told, IsWhole}
+use Rattle.outside_io.specs.Files.{Files, Known, known, IsWhole}
 use Rattle.outside_io.specs.Texts.{grown, GrewByPrefix}
 use Rattle.command_words.specs.Answer.{IsCommand, IsUsage}
 use Rattle.command_words.specs.Choice.{Choice}
@@ -11,14 +11,14 @@ use Rattle.command_answer.specs.declared.status.Status.TheVariants.{Usage, ReadF
 use Rattle.command_answer.specs.Actions.{actions, model_file, IsAnswer}
 use Rattle.command_answer.specs.Stages.{Answer, Stage}
 
--- the text of a sink, where it is told, and its count of faults, before and after a call
+-- the text of a sink, where it is known, and its count of faults, before and after a call
 pub record Written : Type 0 where
   pub old : Option (List ℕ)
   pub new : Option (List ℕ)
   pub before : ℕ
   pub after : ℕ
 
--- the held files, where they are told, whether other names are read as empty files, how often reads of each name failed,
+-- the held files, where they are known, whether other names are read as empty files, how often reads of each name failed,
 -- and the two sinks, before and after a call
 pub record Outside : Type 0 where
   pub held : Option Files
@@ -30,13 +30,13 @@ pub record Outside : Type 0 where
   pub out : Written
   pub err : Written
 
--- the files, as they are told
-abbrev pub files_of : Outside → List ℕ → Told
-files_of o = told o.held o.empty
+-- the files, as they are known
+abbrev pub files_of : Outside → List ℕ → Known
+files_of o = known o.held o.empty
 
--- the shelf tells its files
-abbrev pub TellsFiles : Outside → Type 0
-TellsFiles o = (files : Files) × (o.held ≡ Some files)
+-- the files of the shelf are known
+abbrev pub KnowsFiles : Outside → Type 0
+KnowsFiles o = (files : Files) × (o.held ≡ Some files)
 
 -- a read of the name failed in the call, or a put on the sink
 abbrev pub ReadRose : Outside → List ℕ → Type 0
@@ -106,16 +106,16 @@ module _ (words : List (List ℕ)) (o : Outside) where
     pub ends : EndsWith IsRight o status
     -- refused words are answered as such, unless memory was refused or err failed
     pub usage : (fault : UsageFault) → IsUsage words fault → (status ≡ Usage) ⊎ (status ≡ NoMemory) ⊎ WriteRose o.err
-    -- where the files are told and no count rose, the answer, or memory was refused and out stayed
-    pub complete : TellsFiles o → IsQuiet → Answers status ⊎ ((status ≡ NoMemory) × (o.out.new ≡ o.out.old))
-    -- where the files are told, each other end is an answer, also where a count rose
-    pub only : TellsFiles o → (status ≢ ReadFault) → (status ≢ WriteFault) → (status ≢ NoMemory) → Answers status
+    -- where the files are known and no count rose, the answer, or memory was refused and out stayed
+    pub complete : KnowsFiles o → IsQuiet → Answers status ⊎ ((status ≡ NoMemory) × (o.out.new ≡ o.out.old))
+    -- where the files are known, each other end is an answer, also where a count rose
+    pub only : KnowsFiles o → (status ≢ ReadFault) → (status ≢ WriteFault) → (status ≢ NoMemory) → Answers status
 
 -- a call that ends so does all this
 abbrev pub CallLaw : Type 0
 CallLaw = (words : List (List ℕ)) (o : Outside) (status : Status) → EndsWith (IsRight words o) o status → Call words o status
 
--- where the files are told, no count rose and memory was found, what a call prints is the only answer
+-- where the files are known, no count rose and memory was found, what a call prints is the only answer
 abbrev pub PrintedLaw : Type 0
-PrintedLaw = (words : List (List ℕ)) (o : Outside) (status : Status) → Call words o status → TellsFiles o → IsQuiet words o → status ≢ NoMemory
+PrintedLaw = (words : List (List ℕ)) (o : Outside) (status : Status) → Call words o status → KnowsFiles o → IsQuiet words o → status ≢ NoMemory
     → (a : Answer) → IsAnswer (files_of o) words a → (status ≡ a.status) × GrewBoth o.out o.err a.out a.err

@@ -12,7 +12,7 @@ pub fn call_law()
     ensures { CallLaw }
 {}
 
-/// Where the files are told, no count rose and memory was found, a call prints the only answer.
+/// Where the files are known, no count rose and memory was found, a call prints the only answer.
 pub fn printed_law()
     ensures { PrintedLaw }
 {}

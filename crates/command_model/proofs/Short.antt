@@ -4,7 +4,7 @@ use Rattle.mo_lexer.specs.Tokens.{AreTokens, mark_len}
 use Rattle.mo_lexer.specs.declared.token.Token.{Token}
 use Rattle.mo_parser.specs.declared.tree.ClassDef.{ClassDef}
 use Rattle.mo_parser.specs.declared.tree.Tree.{Tree}
-use Rattle.mo_parser.specs.grammar.Faults.{Spells}
+use Rattle.mo_parser.specs.grammar.Faults.{Derives}
 use Rattle.flat_instances.specs.Instances.{Variable, instances}
 use Rattle.parameter_values.specs.Values.{is_parameter}
 use Rattle.value_rules.specs.N6.{parameters}
@@ -19,7 +19,7 @@ use Rattle.flat_answer.specs.Model.{variables_of}
 use Rattle.flat_answer.specs.Places.{name_of}
 use Rattle.flat_answer.specs.declared.end.FlattenEnd.{FlattenEnd}
 use Rattle.flat_answer.specs.declared.end.FlattenEnd.TheVariants as flatten
-use Rattle.flat_limits.proofs.Told.{Every}
+use Rattle.flat_limits.proofs.Spelled.{Every}
 use Rattle.flat_limits.proofs.Tokens.{IsValue, IsNameSpan, IsGood, all_good, good_literal, good_name}
 use Rattle.flat_limits.proofs.Trees.{told_file}
 use Rattle.flat_limits.proofs.Placings.{Gives, gathers, ClassIs, VariableIs, instances_are, variables_are, every_filter, every_more}
@@ -36,7 +36,7 @@ at_each [] are x = omega arith
 at_each (v ∷ rest) are zero = are.0
 at_each (v ∷ rest) are (suc x) = at_each rest are.1 x
 
-module _ (text : List ℕ) (tokens : List Token) (tree : Tree) (are : AreTokens text tokens) (spelt : Spells text 64 tree tokens) where
+module _ (text : List ℕ) (tokens : List Token) (tree : Tree) (are : AreTokens text tokens) (spelt : Derives text 64 tree tokens) where
   abbrev classes : List ClassDef
   classes = tree.classes
 

@@ -8,9 +8,10 @@ use Rattle.flat_model.specs.declared.place.Place.TheVariants as place
 use Rattle.class_scopes.specs.Reached.{chosen_by}
 use Rattle.flat_answer.specs.declared.end.FlattenEnd.{FlattenEnd}
 use Rattle.flat_answer.specs.Answers as flattening
-use Rattle.command_answer.specs.Actions.{source_in, model_of, model_limit}
+use Rattle.command_answer.specs.Actions.{source_in, model_of}
 use Rattle.command_answer.specs.Layers.{few, flattened, typed}
 use Rattle.command_answer.specs.Stages.{Stage, ◌>>=◌, always, layer}
+use Rattle.mo_lexer.specs.Tokens.{model_limit}
 use Rattle.command_stages.specs.declared.end.End.{End}
 use Rattle.command_stages.specs.Ends.{Halts, of_names}
 use Rattle.command_stages.specs.Segments.{file_of, tree_of}

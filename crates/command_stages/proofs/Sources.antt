@@ -4,9 +4,10 @@ use Rattle.command_words.specs.declared.command.Mode.{Mode}
 use Rattle.command_words.specs.declared.command.Mode.TheVariants.{Run, Flat, Clocks, Stress}
 use Rattle.flat_model.specs.declared.place.Place.TheVariants.{Model}
 use Rattle.stress_text.specs.Text.{stress_text}
-use Rattle.command_answer.specs.Actions.{model_limit, source_in}
+use Rattle.command_answer.specs.Actions.{source_in}
 use Rattle.command_answer.specs.Layers.{few}
 use Rattle.command_answer.specs.Stages.{Stage, ◌>>=◌, always}
+use Rattle.mo_lexer.specs.Tokens.{model_limit}
 use Rattle.command_stages.specs.declared.end.End.{End}
 use Rattle.command_stages.specs.Ends.{Halts}
 use Rattle.command_stages.specs.Segments.{file_of}

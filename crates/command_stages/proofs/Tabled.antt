@@ -5,9 +5,10 @@ use Rattle.flat_model.specs.declared.place.Place.TheVariants as place
 use Rattle.flat_model.specs.declared.table.Table.{Table}
 use Rattle.input_table.specs.declared.ends.TableEnd.{TableEnd}
 use Rattle.input_table.specs.Tables as tables
-use Rattle.command_answer.specs.Actions.{table_of, table_limit}
+use Rattle.command_answer.specs.Actions.{table_of}
 use Rattle.command_answer.specs.Layers.{few, tabled, untabled}
 use Rattle.command_answer.specs.Stages.{Stage, ◌>>=◌, always, layer}
+use Rattle.input_table.specs.Tables.{table_limit}
 use Rattle.command_stages.specs.declared.end.End.{End}
 use Rattle.command_stages.specs.Ends.{Halts, of_table}
 use Rattle.command_stages.specs.Segments.{file_of}

@@ -4,7 +4,7 @@ use Rattle.std.proofs.Math.Nat.{min-le_left, min-le_right, le-min}
 use Rattle.std.proofs.lemmas.List.{length-replicate}
 use Rattle.std.specs.Borrow.{Bor}
 use Rattle.outside_io.specs.Counts.{Rose, next}
-use Rattle.outside_io.specs.Files.{Files, Told, Untold, NotHeld, File, IsWhole, IsLonger, told}
+use Rattle.outside_io.specs.Files.{Files, Known, Unknown, NotHeld, File, IsWhole, IsLonger, known}
 use Rattle.flat_model.specs.declared.place.Place.{Place}
 use Rattle.mo_lexer.specs.declared.fault.LexCode.{LexCode}
 use Rattle.mo_lexer.specs.declared.fault.LexEnd.TheVariants as lex
@@ -38,24 +38,24 @@ longer_than : (limit : ℕ) → (bytes : List ℕ) × (limit < length bytes)
 longer_than limit = (replicate (suc limit) 0, subst (λ n. limit < n) (sym (length-replicate (suc limit) 0)) (omega arith))
 
 -- a file that is too long has some bytes that are too many
-long_bytes : (limit : ℕ) (t : Told) → IsLonger t limit → (bytes : List ℕ) × IsWhole t bytes × (limit < length bytes)
-long_bytes limit Untold longer = let (bytes, over) = longer_than limit in (bytes, tt, over)
+long_bytes : (limit : ℕ) (t : Known) → IsLonger t limit → (bytes : List ℕ) × IsWhole t bytes × (limit < length bytes)
+long_bytes limit Unknown longer = let (bytes, over) = longer_than limit in (bytes, tt, over)
 long_bytes limit NotHeld longer = absurd longer
 long_bytes limit (File bytes) longer = (bytes, refl, longer)
 
 -- the file of a step of a call
 module _ (o : Outside) (held : Option Files) (empty : Bool) (before after : List ℕ → ℕ) (step : IsStepOf o held empty before after) (limit : ℕ) (place : Place) (name : List ℕ) where
-  same_file : told held empty name ≡ files_of o name
-  same_file = ap (λ h. told h empty name) step.holds ∙ ap (λ e. told o.held e name) step.flag
+  same_file : known held empty name ≡ files_of o name
+  same_file = ap (λ h. known h empty name) step.holds ∙ ap (λ e. known o.held e name) step.flag
 
-  pub file_makes : (bytes : List ℕ) → IsWhole (told held empty name) bytes → length bytes ≤ limit → (file_of (reads_in o) limit place name).makes bytes
+  pub file_makes : (bytes : List ℕ) → IsWhole (known held empty name) bytes → length bytes ≤ limit → (file_of (reads_in o) limit place name).makes bytes
   unfolding file_of reads_in few always ◌>>=◌
   file_makes bytes whole within = (bytes, subst (λ t. IsWhole t bytes) same_file whole, (tt, within, refl))
 
-  pub file_too_long : IsLonger (told held empty name) limit → Halts (file_of (reads_in o) limit place name) (Refused L0 place)
+  pub file_too_long : IsLonger (known held empty name) limit → Halts (file_of (reads_in o) limit place name) (Refused L0 place)
   unfolding file_of reads_in few always ◌>>=◌
   file_too_long longer answer is =
-      let (bytes, whole, over) = long_bytes limit (told held empty name) longer in
+      let (bytes, whole, over) = long_bytes limit (known held empty name) longer in
       inr (bytes, subst (λ t. IsWhole t bytes) same_file whole, inl (over, let same : Some (refused L0 place) ≡ Some answer = is in cc))
 
   pub file_unread : (read : Bor (List ℕ)) → read.now ≡ name → Rose (before name) (after name) → Halts (file_of (reads_in o) limit place name) (ReadFault read)
@@ -63,7 +63,7 @@ module _ (o : Outside) (held : Option Files) (empty : Bool) (before after : List
   file_unread read same rose answer is =
       inl (
         rose_within (o.faults name) (before name) (after name) (o.faults_after name) (step.since name) (step.until name) rose,
-        let told : Some (read_fault read.now) ≡ Some answer = is in let one : answer ≡ read_fault read.now = cc in one ∙ ap read_fault same,
+        let known : Some (read_fault read.now) ≡ Some answer = is in let one : answer ≡ read_fault read.now = cc in one ∙ ap read_fault same,
       )
 
 -- the tree of a text

@@ -10,7 +10,7 @@ pub record KeepsShelf (held held' : Option Files) (empty empty' : Bool) (faults 
   pub flag : empty' ≡ empty
   pub counts : (name : List ℕ) → faults name ≤ faults' name
 
--- a step of a call: the files are told as at its start, and each count lies between those before and after the call
+-- a step of a call: the files are known as at its start, and each count lies between those before and after the call
 pub record IsStepOf (o : Outside) (held : Option Files) (empty : Bool) (before after : List ℕ → ℕ) : Type 0 where
   pub holds : held ≡ o.held
   pub flag : empty ≡ o.empty

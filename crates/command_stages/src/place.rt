@@ -1,5 +1,6 @@
-ghost use Rattle.std.specs.Prelude.{◌≡◌, ◌≤◌, ◌^◌, IfOk, length};
+ghost use Rattle.std.specs.Prelude.{◌≡◌, ◌≤◌, IfOk, length};
 ghost use Rattle.flat_answer.specs.Places.{place_at};
+ghost use Rattle.mo_lexer.specs.Tokens.{model_limit};
 
 use flat_model::Place;
 use std::alloc::{AllocError, Global};
@@ -7,7 +8,7 @@ use sync_values::Text;
 
 /// The line and the column of the byte at a place of a text, both from 1. A place behind the end is that of the end.
 pub fn place_at(text: &[u8], at: u32) -> Place
-    requires { length text.now ≤ 2 ^ 20 }
+    requires { length text.now ≤ model_limit }
     ensures { result ≡ place_at text.now at }
 {
     let front = (at as usize).min(text.len());

@@ -10,8 +10,8 @@ use Rattle.command_words.specs.declared.arguments.Given.{Given}
 use Rattle.command_words.specs.Choice.{Texts}
 use Rattle.command_words.specs.declared.arguments.GivenEnd.{GivenEnd}
 use Rattle.command_words.specs.declared.arguments.GivenEnd.TheVariants.{Untaken, NoMemory}
-use Rattle.command_words.specs.Given.{IsFound, IsUntaken, given_texts}
-use Rattle.command_words.specs.Words.{AreTaken, clockrun, texts_of, value_at}
+use Rattle.command_words.specs.private.Given.{IsFound, IsUntaken, given_texts}
+use Rattle.command_words.specs.Words.{AreAccepted, clockrun, texts_of, value_at}
 
 simple : is_simple clockrun ≡ true
 unfolding clockrun clap_on_literals
@@ -22,7 +22,7 @@ unfolding clockrun clap_on_literals
 free = refl
 
 -- a command that is this one takes the words
-pub are_taken : (a : App) (words : List Text) → a ≡ clockrun → (is_simple_and_free a ≡ true → fault_of a words ≡ []) → AreTaken words
+pub are_taken : (a : App) (words : List Text) → a ≡ clockrun → (is_simple_and_free a ≡ true → fault_of a words ≡ []) → AreAccepted words
 are_taken a words e h = let P : App → Type 0 = λ x. fault_of x words ≡ [] in subst P e (h (ap is_simple_and_free e ∙ free))
 
 -- an id's first value, by the words
@@ -49,13 +49,13 @@ given_of_found m words given a e has found = same_texts (given_texts given) (tex
     (found.mode ∙ ap (λ (o : Option Text). unwrap_or o []) (value_is m words _ a e has))
 
 -- an error that is not for want of memory comes only where the words are not taken
-pub not_taken : (a : App) (words : List Text) (x : Error) → a ≡ clockrun → (is_simple_and_free a ≡ true → HasKind (fault_of a words) x) → (kind_of x ≡ OutOfMemory → ⊥) → AreTaken words → ⊥
+pub not_taken : (a : App) (words : List Text) (x : Error) → a ≡ clockrun → (is_simple_and_free a ≡ true → HasKind (fault_of a words) x) → (kind_of x ≡ OutOfMemory → ⊥) → AreAccepted words → ⊥
 not_taken a words x e h other taken =
     let P : App → Type 0 = λ y. HasKind (fault_of y words) x in
     let Q : Kinds → Type 0 = λ ks. HasKind ks x in
     elim (subst Q taken (subst P e (h (ap is_simple_and_free e ∙ free)))) [ inl memory ↦ other memory | inr none ↦ none ]
 
 -- words that are not taken where the end says so
-pub untaken_of : (words : List Text) (end : GivenEnd) → (end ≡ Untaken → AreTaken words → ⊥) → IsUntaken words end
+pub untaken_of : (words : List Text) (end : GivenEnd) → (end ≡ Untaken → AreAccepted words → ⊥) → IsUntaken words end
 untaken_of words Untaken none = none refl
 untaken_of words NoMemory none = tt

@@ -5,7 +5,7 @@ use Rattle.command_words.specs.declared.command.Mode.TheVariants.{Run, Flat, Clo
 use Rattle.command_words.specs.declared.mode.ModeWord.{ModeWord}
 use Rattle.command_words.specs.declared.mode.ModeWord.TheVariants as word
 use Rattle.command_words.specs.Choice.{mode_name}
-use Rattle.command_words.specs.Given.{word_of}
+use Rattle.command_words.specs.private.Given.{word_of}
 
 pub mode_named : (w : ModeWord) → (mode : Mode) × (word_of w ≡ mode_name mode)
 mode_named word.Run = (Run, refl)

@@ -5,17 +5,17 @@ use Rattle.command_words.specs.declared.command.UsageFault.TheVariants.{Words}
 use Rattle.command_words.specs.declared.command.WordsEnd.{WordsEnd}
 use Rattle.command_words.specs.declared.command.WordsEnd.TheVariants.{Usage, NoMemory}
 use Rattle.command_words.specs.Choice.{Choice, IsChoice, IsMisfit}
-use Rattle.command_words.specs.Words.{AreTaken, texts_of}
+use Rattle.command_words.specs.Words.{AreAccepted, texts_of}
 
 -- the words are a command that asks for the choice
 pub record IsCommand (words : List (List ℕ)) (choice : Choice) : Type 0 where
-  pub taken : AreTaken words
+  pub taken : AreAccepted words
   pub choice_is : IsChoice (texts_of words) choice
 
 -- the words are refused, and the first check that fails is told
 pub data IsUsage (words : List (List ℕ)) (fault : UsageFault) : Type 0 where
-  not_taken : (AreTaken words → ⊥) → fault ≡ Words → IsUsage words fault
-  no_choice : AreTaken words → IsMisfit (texts_of words) fault → IsUsage words fault
+  not_taken : (AreAccepted words → ⊥) → fault ≡ Words → IsUsage words fault
+  no_choice : AreAccepted words → IsMisfit (texts_of words) fault → IsUsage words fault
 
 -- no command is read: the words are refused, or memory is short
 abbrev pub IsEnd : List (List ℕ) → WordsEnd → Type 0

@@ -3,7 +3,7 @@ use Rattle.std.specs.Prelude.{◌≡◌, ℕ, ◌*◌, ◌^◌, ◌<◌, ◌≤�
 use Rattle.std.specs.Borrow.{Bor}
 use Rattle.std.specs.Str.Parse.{digits_value}
 use Rattle.rational_time.specs.declared.ratio.Ratio.{Ratio}
-use Rattle.rational_time.specs.Fraction.{IsFraction}
+use Rattle.rational_time.specs.Fraction.{IsFraction, second_limit}
 use Rattle.rational_time.specs.TimeText.{IsNumeral, WritesTime}
 use Rattle.command_words.specs.declared.command.Command.{Command}
 use Rattle.command_words.specs.declared.command.Mode.{Mode}
@@ -55,7 +55,7 @@ pub record IsStop (text : List ℕ) (stop : Ratio) : Type 0 where
   pub value : IsFraction stop num den
   pub num_fits : stop.num < 2 ^ 60
   pub den_fits : stop.den < 2 ^ 32
-  pub early : stop.num < 2 ^ 20 * stop.den
+  pub early : stop.num < second_limit * stop.den
 
 -- a text writes a number of workers: 1 to 9 decimal digits of a value from 1 to 64
 pub record IsWorkers (text : List ℕ) (workers : ℕ) : Type 0 where

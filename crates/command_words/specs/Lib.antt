@@ -1,5 +1,5 @@
 pub mod Answer
 pub mod Choice
-pub mod Given
 pub mod Lines
 pub mod Words
+pub mod private

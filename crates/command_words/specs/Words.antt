@@ -34,8 +34,8 @@ clockrun =
     with_rule (with_rule (with_rule (with_rule (with_rule (with_rule bare model_rule) stop_rule) (option_rule (codes "table"))) (option_rule (codes "class"))) workers_rule) mode_rule
 
 -- the words are taken: they break no rule of the command, and ask for no help
-abbrev pub AreTaken : List Text → Type 0
-AreTaken words = fault_of clockrun words ≡ []
+abbrev pub AreAccepted : List Text → Type 0
+AreAccepted words = fault_of clockrun words ≡ []
 
 -- the value of an argument, where it has one
 abbrev pub value_at : Text → List Text → Option Text

@@ -1,6 +1,6 @@
 ghost use Rattle.std.specs.Prelude.{◌≡◌, ◌*◌, ◌≢◌, IfErr, IfOk, false, map, string_bytes};
-ghost use Rattle.command_words.specs.Given.{IsFound, IsUntaken, given_texts};
-ghost use Rattle.command_words.specs.Words.{AreTaken, bare, clockrun, mode_rule, model_rule, option_rule, stop_rule, texts_of, workers_rule};
+ghost use Rattle.command_words.specs.private.Given.{IsFound, IsUntaken, given_texts};
+ghost use Rattle.command_words.specs.Words.{AreAccepted, bare, clockrun, mode_rule, model_rule, option_rule, stop_rule, texts_of, workers_rule};
 ghost use Rattle.clap.specs.Words.{app_of, found_of, rule_of};
 
 use clap::error::ErrorKind;
@@ -110,7 +110,7 @@ fn end_of(kind: ErrorKind) -> GivenEnd
 
 /// The values of the arguments. `Untaken` comes only where the words are not taken.
 pub fn read_given<'a>(alloc: Global, words: &'a [String]) -> Result<Given<'a>, GivenEnd>
-    ensures given { IfOk result (λ g. AreTaken (map string_bytes words.entry.now)
+    ensures given { IfOk result (λ g. AreAccepted (map string_bytes words.entry.now)
         × (given_texts g ≡ texts_of (map string_bytes words.entry.now))) }
     ensures untaken { IfErr result (IsUntaken (map string_bytes words.entry.now)) }
 {

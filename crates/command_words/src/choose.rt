@@ -1,6 +1,6 @@
 ghost use Rattle.std.specs.Prelude.{IfErr, IfOk};
 ghost use Rattle.command_words.specs.Choice.{IsChoice, IsMisfit, choice_of};
-ghost use Rattle.command_words.specs.Given.{given_texts};
+ghost use Rattle.command_words.specs.private.Given.{given_texts};
 
 use crate::arguments::Given;
 use crate::command::{Command, UsageFault};

@@ -2,6 +2,8 @@ ghost use Rattle.std.specs.Prelude.{◌≡◌};
 ghost use Rattle.command_words.specs.Lines.{usage_line};
 
 use rational_time::Ratio;
+use std::error::Error;
+use std::fmt;
 
 /// What is asked for of a model.
 #[derive(Clone, Copy, Debug, PartialEq, Eq)]
@@ -69,3 +71,14 @@ pub enum WordsEnd {
     Usage(UsageFault),
     NoMemory,
 }
+
+impl fmt::Display for WordsEnd {
+    fn fmt<W: fmt::Write>(&self, f: &mut fmt::Formatter<W>) -> fmt::Result {
+        match self {
+            WordsEnd::Usage(fault) => write!(f, "no command: {fault:?}"),
+            WordsEnd::NoMemory => write!(f, "no memory"),
+        }
+    }
+}
+
+impl Error for WordsEnd {}

@@ -1,7 +1,7 @@
 ghost use Rattle.std.specs.Prelude.{◌≡◌, ℕ, MatchOption};
 ghost use Rattle.command_words.specs.declared.command.Mode.{Mode};
 ghost use Rattle.command_words.specs.Choice.{IsMembers, IsMode, mode_name};
-ghost use Rattle.command_words.specs.Given.{word_of};
+ghost use Rattle.command_words.specs.private.Given.{word_of};
 
 use crate::command::Mode;
 use crate::members::read_members;

@@ -1,4 +1,3 @@
 pub mod Belows
 pub mod Dots
-pub mod Shapes
 pub mod Tabled

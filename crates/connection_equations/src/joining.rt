@@ -7,11 +7,11 @@ ghost use Rattle.connection_equations.specs.Connections as connections;
 ghost use Rattle.connection_equations.specs.Sets.{AreEquations};
 
 use crate::pairs::Joiner;
-use crate::setting::equations_of;
+use crate::set_equations::equations_of;
 use flat_instances::Item;
 use flat_model::RawEq;
-use mo_connect::{NoMemory, sets};
-use sync_values::List;
+use mo_connect::sets;
+use sync_values::{List, NoMemory};
 
 /// The equations of the connections of instances: of each set of names that their connects join, in the order of the first
 /// members, the first member with each other member in flat order. Memory that is refused is the only error.

@@ -5,7 +5,7 @@
 
 mod joining;
 mod pairs;
-mod setting;
+mod set_equations;
 mod spellings;
 
 pub use joining::connection_equations;

@@ -1,5 +1,7 @@
 use flat_model::Place;
 use std::alloc::AllocError;
+use std::error::Error;
+use std::fmt;
 
 /// A rule that a model with an order of its equations keeps.
 #[derive(Clone, Copy, Debug, PartialEq, Eq)]
@@ -20,6 +22,17 @@ pub enum OrderEnd {
     Fault { code: OrderCode, place: Place },
     NoMemory,
 }
+
+impl fmt::Display for OrderEnd {
+    fn fmt<W: fmt::Write>(&self, f: &mut fmt::Formatter<W>) -> fmt::Result {
+        match self {
+            OrderEnd::Fault { code, place } => write!(f, "{code:?} at {place:?}"),
+            OrderEnd::NoMemory => write!(f, "no memory"),
+        }
+    }
+}
+
+impl Error for OrderEnd {}
 
 impl From<AllocError> for OrderEnd {
     ghost use Rattle.std.specs.Prelude.{◌≡◌};

@@ -10,7 +10,7 @@ use Rattle.flat_model.specs.declared.expression.Expr.{Expr}
 use Rattle.flat_model.specs.declared.expression.Expr.TheVariants.{Read, Chain, Neg, Not}
 use Rattle.flat_model.specs.Occurrences.{is_sum}
 use Rattle.flat_model.specs.Operators.{Answer, Is, Fails, Absent, chain, joined, negated, inverted}
-use Rattle.flat_model.specs.Parts.{kind_of}
+use Rattle.flat_model.specs.Ways.{kind_of}
 use Rattle.flat_model.specs.Views.{Views}
 use Rattle.flat_model.specs.Meaning.{value_of, seen_by, answers}
 use Rattle.flat_model.proofs.Levels.{way_to-Read}

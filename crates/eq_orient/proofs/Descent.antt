@@ -18,7 +18,7 @@ use Rattle.flat_model.specs.Operators.{Answer, Is, Fails, Absent, chain, chained
 use Rattle.flat_model.specs.Samples.{samples_are_plain, all_samples_are_plain}
 use Rattle.flat_model.specs.Views.{Views}
 use Rattle.flat_model.specs.Meaning.{Meaning, seen_by, value_of, answers}
-use Rattle.flat_model.specs.Parts.{Way, beside_of, prefix_of, beside_in_chain, way_through, way_to}
+use Rattle.flat_model.specs.Ways.{Way, beside_of, prefix_of, beside_in_chain, way_through, way_to}
 use Rattle.flat_model.proofs.Levels.{bare_count-Chain, way_to-Chain}
 use Rattle.flat_model.proofs.Values.{value_of-Chain}
 use Rattle.flat_model.proofs.Standings.{may_stand-Chain, may_stand-Neg, may_stand-Not}

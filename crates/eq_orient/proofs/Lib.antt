@@ -9,7 +9,6 @@ pub mod Passing
 pub mod Reached
 pub mod Sides
 pub mod Tallies
-pub mod Ties
 pub mod Undoing
 pub mod Unread
 pub mod Ways

@@ -13,7 +13,7 @@ use Rattle.flat_model.specs.Operators.{chain, negated, inverted, relation, chose
 use Rattle.flat_model.specs.Functions.{called}
 use Rattle.flat_model.specs.Views.{Views, before}
 use Rattle.flat_model.specs.Meaning.{Meaning, meaning_of_level, seen_by, value_of}
-use Rattle.flat_model.specs.Parts.{Way, meanings_of, level_of_meanings, reaches_through, way_through, way_to}
+use Rattle.flat_model.specs.Ways.{Way, meanings_of, level_of_meanings, reaches_through, way_through, way_to}
 
 way_to_roll : (x : ℕ) (y : Expr-F ClockExpr Expr) → way_to x (roll-Expr y) ≡ way_through x (map-Expr ClockExpr Expr (Unit {0}) Way (λ _. tt) (way_to x) y)
 unfolding way_to

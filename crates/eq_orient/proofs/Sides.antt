@@ -11,7 +11,7 @@ use Rattle.flat_model.specs.Samples.{samples_are_plain}
 use Rattle.flat_model.specs.Views.{Views}
 use Rattle.flat_model.specs.Meaning.{value_of, seen_by}
 use Rattle.flat_model.specs.Meets.{HasOneValue}
-use Rattle.flat_model.specs.Parts.{beside_of, way_to, parts_beside, kind_of}
+use Rattle.flat_model.specs.Ways.{beside_of, way_to, parts_beside, kind_of}
 use Rattle.eq_orient.specs.Spine.{IsSpineOf}
 use Rattle.eq_orient.specs.Solving.{with_now, Solves, AreWellMade}
 use Rattle.eq_orient.specs.private.Undoing.{answers_by, AreValues, IsOnWay, beside, Undoes}

@@ -16,7 +16,7 @@ use Rattle.flat_model.specs.Meaning.{value_of, seen_by}
 use Rattle.flat_model.specs.Meets.{HasOneValue}
 use Rattle.flat_model.specs.Occurrences.{bare_count}
 use Rattle.flat_model.specs.Samples.{samples_are_plain}
-use Rattle.flat_model.specs.Parts.{parts_beside, kind_of}
+use Rattle.flat_model.specs.Ways.{parts_beside, kind_of}
 
 -- a value of 64 bits
 abbrev pub Fits : Value → Type 0

@@ -2,7 +2,7 @@
 ghost use Rattle.std.specs.Prelude.{◌≡◌, ◌+◌, ◌++◌, ◌∷◌, true, All, length, map};
 ghost use Rattle.std.specs.List.{list_all, list_any};
 ghost use Rattle.flat_model.specs.Meaning.{answers, seen_by, value_of};
-ghost use Rattle.flat_model.specs.Parts.{parts_beside};
+ghost use Rattle.flat_model.specs.Ways.{parts_beside};
 ghost use Rattle.eq_orient.specs.Spine.{IsSpineOf};
 ghost use Rattle.flat_model.specs.Samples.{samples_are_plain, all_samples_are_plain};
 ghost use Rattle.flat_model.specs.Intervals.{IsMeasurable};

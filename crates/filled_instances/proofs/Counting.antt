@@ -14,7 +14,7 @@ use Rattle.flat_instances.specs.Instances.{Step, Item, Own, items, in_type, in_c
 use Rattle.flat_instances.specs.declared.item.Item.{Item as KeptItem}
 use Rattle.flat_instances.specs.declared.modifiers.Modifiers.{Modifiers}
 use Rattle.flat_instances.specs.Kept.{seen}
-use Rattle.flat_instances.specs.private.Force.{listed}
+use Rattle.flat_instances.specs.Force.{listed}
 use Rattle.flat_instances.specs.private.Walks.{component_items, AddsAlong}
 use Rattle.flat_instances.proofs.Forces.{none_force}
 use Rattle.filled_instances.specs.Counting.{counts}

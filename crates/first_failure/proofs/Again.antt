@@ -24,12 +24,12 @@ use Rattle.side_theory.specs.SetOn.{AreNoClockCells}
 use Rattle.side_theory.specs.Stretches.{AreLinesOf}
 use Rattle.side_theory.proofs.Counting.{reached_split, free_behind}
 use Rattle.side_theory.proofs.Keeping.{holds_row}
-use Rattle.side_theory.proofs.Setting.{taken_other, own_class, ticks_same, set_on, clock_on}
+use Rattle.side_theory.proofs.SetCells.{taken_other, own_class, ticks_same, set_on, clock_on}
 use Rattle.side_theory.proofs.Taking.{run_takes}
 use Rattle.part_stretches.specs.declared.running.ClassStretch.{ClassStretch}
 use Rattle.part_stretches.specs.declared.running.PartFailing.{PartFailing}
 use Rattle.part_stretches.specs.Running.{tick_in, GoesOn, RunsOne, RunsFrom}
-use Rattle.part_stretches.specs.Parts.{Block, entries_of, AreAlike, IsBlock, AreBlocks, AreTold, AllBegin}
+use Rattle.part_stretches.specs.Parts.{Block, entries_of, AreAlike, IsBlock, AreBlocks, AreShown, AllBegin}
 use Rattle.first_failure.proofs.Stepping.{set_alike, alike_back}
 
 -- no line has a cell that is of no name's value
@@ -96,7 +96,7 @@ module _ (s : Setting) (uses : List Use) (p : Option ℕ) (common : Cells) (t : 
             taken_other s S m block.entries row all.last all.taken y (λ own. reached_twice s block.entries (entries_of blocks ++ after) free y own (reached_first (entries_of blocks) after y reached))
             ∙ clear y (reached_second block.entries (entries_of blocks) y reached)
 
-        told_next : (some : List ClassStretch) (others : List Block) → AreBlocks s uses p common t some others → AreTold s S m row ticking t old others → AreTold s S m all.last ticking t mid others
+        told_next : (some : List ClassStretch) (others : List Block) → AreBlocks s uses p common t some others → AreShown s S m row ticking t old others → AreShown s S m all.last ticking t mid others
         told_next [] [] are told = tt
         told_next [] (b ∷ others) are told = absurd are
         told_next (o ∷ some) [] are told = absurd are
@@ -120,7 +120,7 @@ module _ (s : Setting) (uses : List Use) (p : Option ℕ) (common : Cells) (t : 
   KeptOff row blocks old new = (c : ℕ) → c < t → IsOff s S m row c blocks → word_at new c ≡ word_at old c
 
   kept_off : (before after : List Use) (blocks : List Block) → IsOrdered s uses (before ++ (entries_of blocks ++ after)) → (stretches : List ClassStretch) → AreBlocks s uses p common t stretches blocks
-      → (row : Row) → AllBegin s p S m row before → IsClear (entries_of blocks) row → (i : ℕ) (old new : List ℤ) (failing : PartFailing) → IsSet s S m row common t old → AreTold s S m row ticking t old blocks
+      → (row : Row) → AllBegin s p S m row before → IsClear (entries_of blocks) row → (i : ℕ) (old new : List ℤ) (failing : PartFailing) → IsSet s S m row common t old → AreShown s S m row ticking t old blocks
       → RunsFrom i ticking stretches old new (Some failing) → KeptOff row blocks old new
   kept_off before after [] ordered [] are row begins clear i old new failing set told runs = absurd (none-some failing (sym runs.0))
   kept_off before after [] ordered (one ∷ stretches) are row begins clear i old new failing set told runs = absurd are
@@ -187,7 +187,7 @@ module _ (s : Setting) (uses : List Use) (p : Option ℕ) (common : Cells) (t : 
           lines ticks some ls of.1 celled.1 (λ x reached. own x (inr reached)),
         )
 
-    module _ (stretches : List ClassStretch) (are : AreBlocks s uses p common t stretches all_blocks) (begins : AllBegin s p S m row before) (i : ℕ) (old new : List ℤ) (failing : PartFailing) (set : IsSet s S m row common t old) (told : AreTold s S m row ticking t old all_blocks)
+    module _ (stretches : List ClassStretch) (are : AreBlocks s uses p common t stretches all_blocks) (begins : AllBegin s p S m row before) (i : ℕ) (old new : List ℤ) (failing : PartFailing) (set : IsSet s S m row common t old) (told : AreShown s S m row ticking t old all_blocks)
         (runs : RunsFrom i ticking stretches old new (Some failing)) where
       same_word : (c : ℕ) → c < t → IsOfNone c → word_at new c ≡ word_at old c
       same_word c lt none = kept_off before after all_blocks ordered stretches are row begins clear i old new failing set told runs c lt (off_of c none before all_blocks ordered (λ x reached. reached) stretches are)

@@ -14,7 +14,7 @@ use Rattle.step_code.specs.Lines.{AreApart}
 use Rattle.side_theory.specs.Kept.{IsSet, IsClockSet}
 use Rattle.part_stretches.specs.declared.running.ClassStretch.{ClassStretch}
 use Rattle.part_stretches.specs.declared.running.PartFailing.{PartFailing}
-use Rattle.part_stretches.specs.Parts.{Block, entries_of, AreAlike, AreBlocks, AreTold, AllBegin, PartFails}
+use Rattle.part_stretches.specs.Parts.{Block, entries_of, AreAlike, AreBlocks, AreShown, AllBegin, PartFails}
 use Rattle.part_stretches.specs.Running.{RunsFrom}
 use Rattle.first_failure.specs.declared.least.EquationFailing.{EquationFailing}
 use Rattle.first_failure.specs.Turns.{FailsAmong, IsLeast}
@@ -22,7 +22,7 @@ use Rattle.first_failure.specs.Turns.{FailsAmong, IsLeast}
 -- a run of stretches that ended with a failure leaves the cells set over the row with which it began, and what they tell of any clock
 abbrev pub AgainLaw : Type 0
 AgainLaw = (s : Setting) (uses before after : List Use) (blocks : List Block) → IsOrdered s uses (before ++ (entries_of blocks ++ after)) → (p : Option ℕ) (common : Cells) (t : ℕ) (stretches : List ClassStretch) → AreBlocks s uses p common t stretches blocks
-    → (S : Assignment) (m : ℕ) (row : Row) → AllBegin s p S m row before → IsClear (entries_of blocks) row → (ticking : List Bool) (i : ℕ) (old new : List ℤ) (failing : PartFailing) → IsSet s S m row common t old → AreTold s S m row ticking t old blocks
+    → (S : Assignment) (m : ℕ) (row : Row) → AllBegin s p S m row before → IsClear (entries_of blocks) row → (ticking : List Bool) (i : ℕ) (old new : List ℤ) (failing : PartFailing) → IsSet s S m row common t old → AreShown s S m row ticking t old blocks
     → RunsFrom i ticking stretches old new (Some failing)
     → IsSet s S m row common t new × ((class : ℕ) (at : Cells) → AreAlike common at → AreApart at → IsClockSet s S m class at t old → IsClockSet s S m class at t new)
 

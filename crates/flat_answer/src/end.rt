@@ -2,9 +2,11 @@
 use class_scopes::NameCode;
 use flat_model::Place;
 use std::alloc::AllocError;
+use std::error::Error;
+use std::fmt;
 
 /// Why a class has no flat model.
-#[derive(Drop)]
+#[derive(Debug, Drop)]
 pub enum FlattenEnd {
     /// The first broken rule and its place: the line and the column of a byte of the text, and of N6 and N7 the flat name of
     /// a variable.
@@ -12,6 +14,17 @@ pub enum FlattenEnd {
     /// Memory was refused.
     NoMemory,
 }
+
+impl fmt::Display for FlattenEnd {
+    fn fmt<W: fmt::Write>(&self, f: &mut fmt::Formatter<W>) -> fmt::Result {
+        match self {
+            FlattenEnd::Fault { code, place } => write!(f, "{code:?} at {place:?}"),
+            FlattenEnd::NoMemory => write!(f, "no memory"),
+        }
+    }
+}
+
+impl Error for FlattenEnd {}
 
 impl From<AllocError> for FlattenEnd {
     ghost use Rattle.std.specs.Prelude.{◌≡◌};

@@ -1,5 +1,3 @@
 pub mod Dots
 pub mod Groups
-pub mod Bindings
-pub mod Shapes
-pub mod Tellings
+pub mod Lowerings

@@ -29,13 +29,13 @@ module _ (text : List ℕ) (values : Values) (number : NumberOf) where
   name_by name = valued (values name) (number name)
 
   -- a name that is written in a scope
-  abbrev pub name_told : Ident → List Ident → RawExpr
-  name_told scope parts = if is_time parts then raw.Time else name_by (scope ++ dotted parts)
+  abbrev pub name_lowered : Ident → List Ident → RawExpr
+  name_lowered scope parts = if is_time parts then raw.Time else name_by (scope ++ dotted parts)
 
   -- one level of an expression that is written in a scope; a call keeps its name as a text
   abbrev pub expr_level : Ident → TreeNode-F RawExpr RawExpr → RawExpr
   expr_level scope (TreeNode-F.Const v) = raw.Const v
-  expr_level scope (TreeNode-F.Name path) = name_told scope (idents text path)
+  expr_level scope (TreeNode-F.Name path) = name_lowered scope (idents text path)
   expr_level scope (TreeNode-F.Call path arguments) = raw.Call (dotted (idents text path)) arguments
   expr_level scope (TreeNode-F.Chain parts ops) = raw.Chain parts ops
   expr_level scope (TreeNode-F.Relation rel left right) = raw.Relation rel left right

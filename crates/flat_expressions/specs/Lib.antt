@@ -1,3 +1,3 @@
-pub mod Answers
+pub mod Following
 pub mod Equations
 pub mod Expressions

@@ -1,18 +1,18 @@
 //! The equations and clauses that those of instances stand for.
 ghost use Rattle.std.specs.Prelude.{◌≡◌, ◌++◌, ◌∷◌, [], ◌<◌, ◌+◌, ◌^◌, OnOk, Some, length, map};
 ghost use Rattle.class_scopes.specs.Tables.{number_of};
-ghost use Rattle.parameter_values.specs.private.Slots.{seen};
-ghost use Rattle.flat_expressions.specs.Answers.{FollowsBoth};
+ghost use Rattle.parameter_values.specs.Slots.{seen};
+ghost use Rattle.flat_expressions.specs.Following.{FollowsBoth};
 ghost use Rattle.flat_expressions.specs.Equations as eqs;
-ghost use Rattle.flat_expressions.specs.Expressions as told;
+ghost use Rattle.flat_expressions.specs.Expressions as lowered;
 
-use crate::expressions::Teller;
+use crate::expressions::Lowering;
 use flat_model::{RawEq, RawExpr};
 use mo_parser::{TreeEq, TreeExpr};
 use std::alloc::AllocError;
 use sync_values::List;
 
-/// An equation of two sides that are told, or for which memory was refused.
+/// An equation of two sides that are lowered, or for which memory was refused.
 pub fn equation_of(
     left: Result<RawExpr, AllocError>,
     right: Result<RawExpr, AllocError>,
@@ -27,7 +27,7 @@ pub fn equation_of(
     })
 }
 
-impl<'a> Teller<'a> {
+impl<'a> Lowering<'a> {
     /// Adds an equation with its clause.
     fn add_sides(
         &self,
@@ -40,8 +40,8 @@ impl<'a> Teller<'a> {
         ensures { OnOk result (equations.new ≡ equations.old ++ eqs.in_clause clause (eqs.sides_of self.now.text.now (seen self.now.parameters.now self.now.values.now) (number_of self.now.names.now) scope.now left.now right.now) ∷ []) }
     {
         let equation = equation_of(
-            self.expr_told(scope, left),
-            self.expr_told(scope, right),
+            self.expr_lowered(scope, left),
+            self.expr_lowered(scope, right),
             clause,
         )?;
         equations.push(equation)?;
@@ -93,12 +93,12 @@ impl<'a> Teller<'a> {
         clauses: &mut List<RawExpr>,
     ) -> Result<(), AllocError>
         requires { length clauses.old < 2 ^ 32 }
-        ensures { OnOk result (eqs.Adds equations.old clauses.old (eqs.clause (told.expr_of self.now.text.now (seen self.now.parameters.now self.now.values.now) (number_of self.now.names.now) scope.now clock.now) (eqs.sides_in self.now.text.now (seen self.now.parameters.now self.now.values.now) (number_of self.now.names.now) scope.now inside.now)) equations.new clauses.new) }
+        ensures { OnOk result (eqs.Adds equations.old clauses.old (eqs.clause (lowered.expr_of self.now.text.now (seen self.now.parameters.now self.now.values.now) (number_of self.now.names.now) scope.now clock.now) (eqs.sides_in self.now.text.now (seen self.now.parameters.now self.now.values.now) (number_of self.now.names.now) scope.now inside.now)) equations.new clauses.new) }
     {
         let before = equations.len();
         self.add_members(scope, inside, clauses.len() as u32, equations)?;
         if before < equations.len() {
-            clauses.push(self.expr_told(scope, clock)?)?;
+            clauses.push(self.expr_lowered(scope, clock)?)?;
         }
         Ok(())
     }

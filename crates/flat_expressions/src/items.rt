@@ -4,12 +4,12 @@ ghost use Rattle.class_scopes.specs.Tables.{number_of};
 ghost use Rattle.class_scopes.specs.Types.{class_equations};
 ghost use Rattle.flat_instances.specs.Kept as kept;
 ghost use Rattle.parameter_values.specs.Values as values;
-ghost use Rattle.parameter_values.specs.private.Slots.{seen};
+ghost use Rattle.parameter_values.specs.Slots.{seen};
 ghost use Rattle.flat_expressions.specs.Equations as eqs;
-ghost use Rattle.flat_expressions.specs.Expressions as told;
+ghost use Rattle.flat_expressions.specs.Expressions as lowered;
 
 use crate::equations::equation_of;
-use crate::expressions::Teller;
+use crate::expressions::Lowering;
 use flat_instances::{Given, Item, Variable};
 use flat_model::{RawEq, RawExpr};
 use mo_parser::{ClassDef, TreeEq, Variability};
@@ -18,7 +18,7 @@ use sync_values::List;
 
 /// The equations of a model, and the clocks of its clauses by their numbers.
 #[derive(Drop)]
-pub struct Told {
+pub struct Lowered {
     pub equations: List<RawEq>,
     pub clauses: List<RawExpr>,
 }
@@ -55,7 +55,7 @@ fn equations_in(classes: &[ClassDef], class: usize) -> &[TreeEq]
     }
 }
 
-impl<'a> Teller<'a> {
+impl<'a> Lowering<'a> {
     /// Adds the equation of a name and what is given to it.
     fn add_given(
         &self,
@@ -63,11 +63,11 @@ impl<'a> Teller<'a> {
         given: Given<'_>,
         equations: &mut List<RawEq>,
     ) -> Result<(), AllocError>
-        ensures { OnOk result (equations.new ≡ equations.old ++ eqs.in_clause None (eqs.sides (told.name_by self.now.text.now (seen self.now.parameters.now self.now.values.now) (number_of self.now.names.now) name.now) (told.expr_of self.now.text.now (seen self.now.parameters.now self.now.values.now) (number_of self.now.names.now) (take given.entry.scope name.now) given.entry.expr.now)) ∷ []) }
+        ensures { OnOk result (equations.new ≡ equations.old ++ eqs.in_clause None (eqs.sides (lowered.name_by self.now.text.now (seen self.now.parameters.now self.now.values.now) (number_of self.now.names.now) name.now) (lowered.expr_of self.now.text.now (seen self.now.parameters.now self.now.values.now) (number_of self.now.names.now) (take given.entry.scope name.now) given.entry.expr.now)) ∷ []) }
     {
         let equation = equation_of(
             Ok(self.named(name)),
-            self.expr_told(front(name, given.scope), given.expr),
+            self.expr_lowered(front(name, given.scope), given.expr),
             None,
         )?;
         equations.push(equation)?;
@@ -116,11 +116,11 @@ impl<'a> Teller<'a> {
     /// The equations and clauses of a model, from all that its instances have: bindings of variables in their place, and then the
     /// equations of each class in each instance, with the clauses numbered in this order. Equations of connections are not among
     /// them. Memory that is refused is the only error.
-    pub fn equations_told(
+    pub fn equations_lowered(
         &self,
         classes: &[ClassDef],
         items: &[Item<'_>],
-    ) -> Result<Told, AllocError>
+    ) -> Result<Lowered, AllocError>
         requires { length (eqs.clocks_of (eqs.groups self.now.text.now (seen self.now.parameters.now self.now.values.now) (number_of self.now.names.now) classes.now (map (kept.seen self.now.text.now classes.now) items.now))) < 2 ^ 32 }
         ensures equations { IfOk result (λ found. found.equations ≡ eqs.equations_from 0 (eqs.groups self.now.text.now (seen self.now.parameters.now self.now.values.now) (number_of self.now.names.now) classes.now (map (kept.seen self.now.text.now classes.now) items.now))) }
         ensures clauses { IfOk result (λ found. found.clauses ≡ eqs.clocks_of (eqs.groups self.now.text.now (seen self.now.parameters.now self.now.values.now) (number_of self.now.names.now) classes.now (map (kept.seen self.now.text.now classes.now) items.now))) }
@@ -130,6 +130,6 @@ impl<'a> Teller<'a> {
         for item in items {
             self.add_item(classes, item, &mut equations, &mut clauses)?;
         }
-        Ok(Told { equations, clauses })
+        Ok(Lowered { equations, clauses })
     }
 }

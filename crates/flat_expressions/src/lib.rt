@@ -7,5 +7,5 @@ mod items;
 mod nodes;
 mod spellings;
 
-pub use expressions::Teller;
-pub use items::Told;
+pub use expressions::Lowering;
+pub use items::Lowered;

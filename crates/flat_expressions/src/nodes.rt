@@ -1,7 +1,7 @@
-//! Nodes of expressions over parts that are told, or for which memory was refused.
+//! Nodes of expressions over parts that are lowered, or for which memory was refused.
 ghost use Rattle.std.specs.Prelude.{◌≡◌};
 ghost use Rattle.flat_model.specs.declared.raw.RawExpr.TheVariants as raw;
-ghost use Rattle.flat_expressions.specs.Answers.{Follows, FollowsBoth, FollowsAll};
+ghost use Rattle.flat_expressions.specs.Following.{Follows, FollowsBoth, FollowsAll};
 
 use flat_model::RawExpr;
 use sqlite_items::Boxed;

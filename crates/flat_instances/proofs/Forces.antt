@@ -14,7 +14,7 @@ use Rattle.flat_instances.specs.declared.modifier.Modifier.{Modifier}
 use Rattle.flat_instances.specs.declared.modifiers.Modifiers.{Modifiers}
 use Rattle.flat_instances.specs.Instances.{Step, placed, names_along, outermost}
 use Rattle.flat_instances.specs.Modifications.{first_of, behind, given_behind, given_by, given}
-use Rattle.flat_instances.specs.private.Force.{listed, AddsTo, gives, modifier_given, first_given, arg_given, args_given, offered, AddsGiving, GiveOutermost, AreInForce, stepped}
+use Rattle.flat_instances.specs.Force.{listed, AddsTo, gives, modifier_given, first_given, arg_given, args_given, offered, AddsGiving, GiveOutermost, AreInForce, stepped}
 use Rattle.flat_instances.proofs.Givings.{Lent, names_lent, given-level, givings}
 
 -- a list of one part at least, and one without

@@ -16,7 +16,7 @@ use Rattle.class_scopes.specs.Spelled.{Ident, spelled}
 use Rattle.class_scopes.specs.Types.{elements_of, type_of, short_of}
 use Rattle.flat_instances.specs.Instances.{Step, Placed, Item, Own, Declared, Variable, short_start, items, in_type, in_class}
 use Rattle.flat_instances.specs.Kept.{seen, seen_variable, placed_in}
-use Rattle.flat_instances.specs.private.Force.{listed, stepped}
+use Rattle.flat_instances.specs.Force.{listed, stepped}
 use Rattle.flat_instances.specs.private.Walks.{AddsAlong, component_items, class_items}
 use Rattle.flat_instances.proofs.Forces.{none_force}
 

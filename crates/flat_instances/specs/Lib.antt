@@ -1,4 +1,5 @@
 pub mod Instances
 pub mod Kept
 pub mod Modifications
+pub mod Force
 pub mod private

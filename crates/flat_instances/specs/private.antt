@@ -1,2 +1,1 @@
-pub mod Force
 pub mod Walks

@@ -3,7 +3,7 @@ ghost use Rattle.std.specs.Prelude.{◌≡◌, ℕ, [], ◌∷◌, ◌++◌, IfO
 ghost use Rattle.class_scopes.specs.Spelled.{spelled};
 ghost use Rattle.flat_instances.specs.Instances as instances;
 ghost use Rattle.flat_instances.specs.Kept as kept;
-ghost use Rattle.flat_instances.specs.private.Force as force;
+ghost use Rattle.flat_instances.specs.Force as force;
 
 use crate::item::Variable;
 use crate::modifier::{Modifier, given_to, own};

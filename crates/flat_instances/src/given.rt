@@ -39,7 +39,7 @@ fn given_by<'a>(text: &[u8], arg: &'a Arg, path: &[&[u8]]) -> Option<&'a TreeExp
 
 /// What the first of several arguments that gives something gives to a path.
 #[cycle(given)]
-pub fn given_in<'a>(text: &[u8], args: &'a [Arg], path: &[&[u8]]) -> Option<&'a TreeExpr>
+pub(crate) fn given_in<'a>(text: &[u8], args: &'a [Arg], path: &[&[u8]]) -> Option<&'a TreeExpr>
     ensures { option_copied result ≡ modifications.first_of (map (λ arg. modifications.given_by text.now arg (map (λ name. name.now) path.now)) args.now) }
 {
     for arg in args {

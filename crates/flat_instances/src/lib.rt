@@ -11,7 +11,6 @@ mod starts;
 mod walk;
 
 pub use component::{inside, variable};
-pub use given::given_in;
 pub use item::{Given, Item, Variable};
 pub use modifiers::Modifiers;
 pub use starts::start_of;

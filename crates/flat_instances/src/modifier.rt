@@ -2,7 +2,7 @@
 ghost use Rattle.std.specs.Prelude.{◌≡◌, ℕ, List, [], map, option_map};
 ghost use Rattle.std.specs.Option.{option_copied};
 ghost use Rattle.flat_instances.specs.Kept as kept;
-ghost use Rattle.flat_instances.specs.private.Force as force;
+ghost use Rattle.flat_instances.specs.Force as force;
 
 use crate::given::{behind, given_in};
 use crate::item::Given;

@@ -1,7 +1,7 @@
 //! The modifications that are in force in an instance.
 ghost use Rattle.std.specs.Prelude.{◌≡◌, ℕ, List, [], ◌∷◌, ◌++◌, IfOk, OnOk};
 ghost use Rattle.class_scopes.specs.Spelled.{spelled};
-ghost use Rattle.flat_instances.specs.private.Force as force;
+ghost use Rattle.flat_instances.specs.Force as force;
 
 use crate::modifier::Modifier;
 use indexmap::IndexMap;

@@ -19,7 +19,7 @@ use Rattle.class_scopes.specs.declared.type_name.TypeName.TheVariants.{Simple, F
 use Rattle.flat_instances.specs.Instances.{Step, Variable, Item, Declared, Own, in_component, in_type, in_class, name_here, path_here, items, instances, variables}
 use Rattle.parameter_values.specs.Values.{Values}
 use Rattle.flat_answer.specs.Flat.{IsNameOf}
-use Rattle.flat_limits.proofs.Told.{Every}
+use Rattle.flat_limits.proofs.Spelled.{Every}
 use Rattle.flat_limits.proofs.Tokens.{IsNoDot, IsNameText}
 use Rattle.flat_limits.proofs.Placings.{every_append, every_flat_map, every_filter, every_both, every_more, contains_first, contains_more, each_within}
 use Rattle.flat_limits.proofs.Grounds.{all_of}

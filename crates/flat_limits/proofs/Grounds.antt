@@ -29,7 +29,7 @@ use Rattle.flat_expressions.specs.Equations.{Sides, sides, Group, Alone, Clause,
 use Rattle.connection_equations.specs.Sets.{equal, equations_of_set}
 use Rattle.flat_answer.specs.Flat.{start_of, IsNameOf}
 use Rattle.flat_answer.specs.Inputs.{has_input, is_outer, is_valued, is_model_input}
-use Rattle.flat_limits.proofs.Told.{Every, Maybe}
+use Rattle.flat_limits.proofs.Spelled.{Every, Maybe}
 use Rattle.flat_limits.proofs.Tokens.{IsValue}
 use Rattle.flat_limits.proofs.Trees.{SidesBy, AreSides, EquationBy, IsEquation}
 use Rattle.flat_limits.proofs.Placings.{Gives, PlacedIs, VariableIs, ItemIs, ClassIs, every_append, every_flat_map, every_map}

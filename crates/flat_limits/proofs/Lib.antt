@@ -4,10 +4,10 @@ pub mod Fitting
 pub mod Grounds
 pub mod Limits
 pub mod Operations
-pub mod Parts
+pub mod Nodes
 pub mod Placings
 pub mod Raws
-pub mod Told
+pub mod Spelled
 pub mod Tokens
 pub mod Trees
 pub mod Used

@@ -6,7 +6,7 @@ use Rattle.mo_lexer.specs.declared.token.Token.{Token}
 use Rattle.mo_parser.specs.declared.tree.ClassDef.{ClassDef}
 use Rattle.mo_parser.specs.declared.tree.Element.{Element}
 use Rattle.mo_parser.specs.declared.tree.Tree.{Tree}
-use Rattle.mo_parser.specs.grammar.Faults.{Spells}
+use Rattle.mo_parser.specs.grammar.Faults.{Derives}
 use Rattle.flat_model.specs.Models.{IsName}
 use Rattle.flat_model.specs.RawModels.{IsRawModel, HasConstants, constants_fit}
 use Rattle.flat_model.specs.declared.model.FlatName.{FlatName}
@@ -28,7 +28,7 @@ use Rattle.flat_answer.specs.Broken.{KeepsAll}
 use Rattle.flat_answer.specs.Flat.{IsFlat, IsNameOf}
 use Rattle.flat_answer.specs.Model.{plain, number_in}
 use Rattle.flat_limits.specs.Laws.{FlatLimitsLaw}
-use Rattle.flat_limits.proofs.Told.{Every}
+use Rattle.flat_limits.proofs.Spelled.{Every}
 use Rattle.flat_limits.proofs.Tokens.{IsValue, IsNameSpan, IsGood, all_good, good_literal, good_name}
 use Rattle.flat_limits.proofs.Trees.{told_file}
 use Rattle.flat_limits.proofs.Placings.{Gives, gathers, ClassIs, ElementIs, ItemIs, VariableIs, instances_are, variables_are, elements_are, every_append, every_filter, every_more}
@@ -53,7 +53,7 @@ as_many text classes chosen values [] (n ∷ names) all = absurd all
 as_many text classes chosen values (v ∷ vs) [] all = absurd all
 as_many text classes chosen values (v ∷ vs) (n ∷ names) all = ap suc (as_many text classes chosen values vs names all.1)
 
-module _ (text : List ℕ) (tokens : List Token) (levels : ℕ) (tree : Tree) (are : AreTokens text tokens) (spelt : Spells text levels tree tokens) where
+module _ (text : List ℕ) (tokens : List Token) (levels : ℕ) (tree : Tree) (are : AreTokens text tokens) (spelt : Derives text levels tree tokens) where
   abbrev classes : List ClassDef
   classes = tree.classes
 

@@ -14,7 +14,7 @@ use Rattle.flat_model.specs.Operators.{Answer, Is, Fails, Absent, settled, read,
 use Rattle.flat_model.specs.Typing.{is_value}
 use Rattle.parameter_values.specs.Values.{called_by}
 use Rattle.parameter_values.proofs.Larger.{joined_absent, joined_fails}
-use Rattle.flat_limits.proofs.Told.{Every, Maybe}
+use Rattle.flat_limits.proofs.Spelled.{Every, Maybe}
 use Rattle.flat_limits.proofs.Tokens.{IsValue}
 
 -- what is given is a value

@@ -16,7 +16,7 @@ use Rattle.class_order.specs.N11.{HasDepth, here, deeper}
 use Rattle.flat_instances.specs.Instances.{Step, Placed, Variable, Item, Declared, Own, placed, outermost, names_along, short_start, variable, in_component, in_type, in_class, name_here, path_here, items, instances, variables}
 use Rattle.flat_instances.specs.Modifications.{first_of, behind, given_behind, given_by, given}
 use Rattle.flat_instances.proofs.Givings.{given-level}
-use Rattle.flat_limits.proofs.Told.{Every, Maybe, every_push}
+use Rattle.flat_limits.proofs.Spelled.{Every, Maybe, every_push}
 use Rattle.flat_limits.proofs.Tokens.{IsNameSpan}
 use Rattle.flat_limits.proofs.Trees.{Gathers, IsElement, IsClass, IsShort}
 

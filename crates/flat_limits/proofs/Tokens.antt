@@ -23,7 +23,7 @@ use Rattle.mo_parser.specs.declared.tree.Span.{Span}
 use Rattle.mo_parser.specs.grammar.Kinds.{literal_of, literal_by, is_ident, kind_is_ident}
 use Rattle.mo_parser.specs.grammar.Names.{span_of}
 use Rattle.class_scopes.specs.Spelled.{spelled}
-use Rattle.flat_limits.proofs.Told.{Every}
+use Rattle.flat_limits.proofs.Spelled.{Every}
 
 abbrev pub IsValue : Value → Type 0
 IsValue v = is_value v ≡ true

@@ -32,8 +32,8 @@ use Rattle.mo_parser.specs.grammar.Modifications as args
 use Rattle.mo_parser.specs.grammar.Elements as elements
 use Rattle.mo_parser.specs.grammar.Equations as eqs
 use Rattle.mo_parser.specs.grammar.Classes as classes
-use Rattle.flat_limits.proofs.Told.{Every, Maybe, Any_of, every_push, Told, told_gives, told_one, told_any, told_then, told_either, told_deep, told_inside, told_many, told_optional, told_dropped}
-use Rattle.flat_limits.proofs.Parts.{Rises, told_symbol, told_word, told_ident, told_text, told_name, told_simple, told_level, told_expr}
+use Rattle.flat_limits.proofs.Spelled.{Every, Maybe, Any_of, every_push, Told, told_gives, told_one, told_any, told_then, told_either, told_deep, told_inside, told_many, told_optional, told_dropped}
+use Rattle.flat_limits.proofs.Nodes.{Rises, told_symbol, told_word, told_ident, told_text, told_name, told_simple, told_level, told_expr}
 
 -- nothing is asked of descriptions and annotations
 module _ (Good : Token → Type 0) where

@@ -23,10 +23,10 @@ use Rattle.class_scopes.specs.Types.{kind_of}
 use Rattle.class_scopes.specs.declared.type_name.TypeName.{TypeName}
 use Rattle.flat_instances.specs.Instances.{Placed, Variable}
 use Rattle.parameter_values.specs.Values.{Values, flat_name, read_name, answer_level, answer, function_named, of_kind, zero_of, value_by, value_expr, value_from, is_parameter, parameter_named, derived, AreValues}
-use Rattle.flat_expressions.specs.Expressions.{NumberOf, numbered, valued, name_by, name_told, expr_level, expr_of}
-use Rattle.flat_limits.proofs.Told.{Every, Maybe}
+use Rattle.flat_expressions.specs.Expressions.{NumberOf, numbered, valued, name_by, name_lowered, expr_level, expr_of}
+use Rattle.flat_limits.proofs.Spelled.{Every, Maybe}
 use Rattle.flat_limits.proofs.Tokens.{IsValue}
-use Rattle.flat_limits.proofs.Parts.{Parts, Rises}
+use Rattle.flat_limits.proofs.Nodes.{Parts, Rises}
 use Rattle.flat_limits.proofs.Placings.{PlacedIs, VariableIs}
 use Rattle.flat_limits.proofs.Operations.{Fits, read_fits, chain_fits, negated_fits, inverted_fits, relation_fits, chosen_fits, call_fits}
 

@@ -7,7 +7,7 @@ use Rattle.flat_model.specs.declared.expression.Expr.TheVariants.{Const, Read, C
 use Rattle.flat_model.specs.declared.clock.ClockExpr.TheOpen.{Expr-F}
 use Rattle.flat_model.specs.declared.clock.ClockExpr.TheFolds.{fold-roll-Expr}
 use Rattle.flat_model.specs.Occurrences.{one_if, bare_in_level, held_in_level, converted_in_level, reached_in_level, bare_count, held_count, converted_count, is_reached}
-use Rattle.flat_model.specs.Parts.{Way, way_through, way_to}
+use Rattle.flat_model.specs.Ways.{Way, way_through, way_to}
 
 pub bare_count-Const : (x : ℕ) (v : Value) → bare_count x (Const v) ≡ 0
 unfolding bare_count

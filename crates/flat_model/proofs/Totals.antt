@@ -5,7 +5,7 @@ use Rattle.std.proofs.lemmas.Option.{same_Some, none-some}
 use Rattle.sync_values.specs.declared.value.Value.TheVariants as value
 use Rattle.sync_values.specs.declared.value.ChainOp.{ChainOp}
 use Rattle.flat_model.specs.declared.expression.Expr.{Expr}
-use Rattle.flat_model.specs.Answers.{failed, truth_in}
+use Rattle.flat_model.specs.Values.{failed, truth_in}
 use Rattle.flat_model.specs.Meaning.{value_of, answers}
 use Rattle.flat_model.specs.Operators.{Answer, Is, Fails, Absent, joined, chained, chosen}
 use Rattle.flat_model.specs.Views.{Views}

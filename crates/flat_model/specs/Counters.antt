@@ -10,9 +10,13 @@ use Rattle.flat_model.specs.declared.expression.Expr.{Expr}
 use Rattle.flat_model.specs.declared.equation.Equation.{Equation}
 use Rattle.flat_model.specs.declared.equation.Equation.TheVariants.{Valued, Clocks}
 
+-- no counter reaches it
+abbrev pub counter_limit : ℕ
+counter_limit = 2 ^ 31
+
 -- a number from the least one to 2^31-1
 abbrev pub is_counter : ℕ → ℕ → Bool
-is_counter least n = nat_le least n && nat_lt n (2 ^ 31)
+is_counter least n = nat_le least n && nat_lt n counter_limit
 
 -- a factor of 0 is an inferred one, a shift may be by 0, and no resolution is 0
 abbrev pub has_counters : Conversion → Bool

@@ -15,7 +15,7 @@ use Rattle.flat_model.specs.Meets.{MeetsBefore}
 use Rattle.flat_model.specs.Occurrences.{bare_count}
 use Rattle.flat_model.specs.Uses.{Use, AreUses}
 use Rattle.flat_model.specs.Given.{Row, with_row, IsGiven, CanUse, Solves}
-use Rattle.flat_model.specs.Parts.{parts_beside, kind_of}
+use Rattle.flat_model.specs.Ways.{parts_beside, kind_of}
 
 -- a site fails at m over the given values: all names that its condition reads have values, and it has none
 pub record SiteFails (s : Setting) (S : Assignment) (m site : ℕ) (kind : Fail) : Type 0 where

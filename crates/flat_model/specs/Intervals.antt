@@ -1,7 +1,7 @@
 -- The intervals of clocks, measured.
 use Rattle.std.specs.Prelude.{◌≡◌, ◌-◌, ◌*◌, ◌^◌, ◌<◌}
 use Rattle.rational_time.specs.declared.ratio.Ratio.{Ratio}
-use Rattle.rational_time.specs.Fraction.{AtMost}
+use Rattle.rational_time.specs.Fraction.{AtMost, second_limit}
 use Rattle.flat_model.specs.declared.clock.Elapsed.{Elapsed}
 use Rattle.flat_model.specs.declared.clock.Elapsed.TheVariants.{Period, Between}
 use Rattle.flat_model.specs.Views.{Length}
@@ -17,7 +17,7 @@ IsLengthOf interval length = (0 < length.den) × (length.num * (length_of interv
 
 -- an instant before 2^20 seconds with a denominator below 2^40
 abbrev pub IsInRange : Ratio → Type 0
-IsInRange t = (t.num < 2 ^ 20 * t.den) × (t.den < 2 ^ 40)
+IsInRange t = (t.num < second_limit * t.den) × (t.den < 2 ^ 40)
 
 -- an interval whose whole multiples fit 128 bits: a period, or the time between two instants in order and in range
 abbrev pub IsMeasurable : Elapsed → Type 0

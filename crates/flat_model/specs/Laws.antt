@@ -5,7 +5,7 @@ use Rattle.rational_time.specs.Fraction.{IsTick}
 use Rattle.flat_model.specs.declared.clock.Clock.{Clock}
 use Rattle.sync_values.specs.declared.value.Value.{Value}
 use Rattle.flat_model.specs.declared.expression.Expr.{Expr}
-use Rattle.flat_model.specs.Answers.{value_in, views_of}
+use Rattle.flat_model.specs.Values.{value_in, views_of}
 use Rattle.flat_model.specs.Assignment.{Assignment}
 use Rattle.flat_model.specs.Meaning.{value_of}
 use Rattle.flat_model.specs.Occurrences.{bare_count}

@@ -1,4 +1,4 @@
-pub mod Answers
+pub mod Values
 pub mod Arguments
 pub mod Asks
 pub mod Assignment
@@ -19,7 +19,7 @@ pub mod NextInstant
 pub mod Occurrences
 pub mod Operators
 pub mod Order
-pub mod Parts
+pub mod Ways
 pub mod Plan
 pub mod RawModels
 pub mod Runnable

@@ -2,6 +2,7 @@
 use Rattle.std.specs.Prelude.{◌≡◌, ◌≢◌, ℕ, ◌+◌, ◌*◌, ◌^◌, ◌<◌, true, List, [], ◌∷◌, length, Some, slice_get, All, AllPairs, Contains}
 use Rattle.rational_time.specs.declared.ratio.Ratio.{Ratio}
 use Rattle.sync_values.specs.declared.value.Value.{Value}
+use Rattle.rational_time.specs.Fraction.{second_limit}
 use Rattle.flat_model.specs.declared.model.FlatModel.{FlatModel}
 use Rattle.flat_model.specs.declared.model.FlatName.{FlatName}
 use Rattle.flat_model.specs.declared.table.Table.{Table}
@@ -10,7 +11,7 @@ use Rattle.flat_model.specs.Moments.{IsRising}
 
 -- a time below 2^20 seconds with a denominator below 2^32
 abbrev pub IsTime : Ratio → Type 0
-IsTime t = (t.num < 2 ^ 20 * t.den) × (t.den < 2 ^ 32)
+IsTime t = (t.num < second_limit * t.den) × (t.den < 2 ^ 32)
 
 -- there is a first time, and it is 0
 abbrev pub StartAtZero : List Ratio → Type 0

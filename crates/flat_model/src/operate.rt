@@ -1,7 +1,7 @@
 ghost use Rattle.std.specs.Prelude.{◌≡◌, ◌≢◌, [], ◌∷◌};
 ghost use Rattle.flat_model.specs.Operators.{Is, Absent, settled, negated, inverted, applied, relation};
 ghost use Rattle.flat_model.specs.Functions.{called};
-ghost use Rattle.flat_model.specs.Answers.{stated};
+ghost use Rattle.flat_model.specs.Values.{stated};
 ghost use Rattle.flat_model.specs.Evaluation.{answer_of};
 
 use crate::expression::Fun;

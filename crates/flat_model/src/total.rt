@@ -2,7 +2,7 @@ ghost use Rattle.std.specs.Prelude.{◌≡◌, []};
 ghost use Rattle.flat_model.specs.Operators.{chain, joined, read};
 ghost use Rattle.flat_model.specs.Functions.{called};
 ghost use Rattle.flat_model.specs.Meaning.{value_of, answers};
-ghost use Rattle.flat_model.specs.Answers.{stated, failed, truth_in, value_in, views_of};
+ghost use Rattle.flat_model.specs.Values.{stated, failed, truth_in, value_in, views_of};
 
 use crate::evaluate::is_enough;
 use crate::expression::{Expr, Fun};

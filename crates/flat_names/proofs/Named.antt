@@ -16,8 +16,8 @@ use Rattle.flat_instances.specs.declared.item.Item.TheVariants.{Declared, Own}
 use Rattle.flat_instances.specs.Instances.{Variable, variables}
 use Rattle.flat_instances.specs.Kept.{seen, seen_variable}
 use Rattle.parameter_values.specs.Values.{of_kind, answer, is_fixed, is_parameter}
-use Rattle.parameter_values.specs.private.Outcomes.{outcome, answer_of}
-use Rattle.parameter_values.specs.private.Slots.{seen as seen_values}
+use Rattle.parameter_values.specs.Outcomes.{outcome, answer_of}
+use Rattle.parameter_values.specs.Slots.{seen as seen_values}
 use Rattle.parameter_values.proofs.OutcomeMeaning.{outcome_matches}
 use Rattle.flat_answer.specs.Model.{plain}
 use Rattle.flat_names.specs.private.Naming.{plain_in}

@@ -10,8 +10,8 @@ ghost use Rattle.flat_instances.specs.Instances as instances;
 ghost use Rattle.flat_instances.specs.Kept as kept;
 ghost use Rattle.flat_names.specs.private.Naming as naming;
 ghost use Rattle.parameter_values.specs.Values as values;
-ghost use Rattle.parameter_values.specs.private.Outcomes as outcomes;
-ghost use Rattle.parameter_values.specs.private.Slots.{seen};
+ghost use Rattle.parameter_values.specs.Outcomes as outcomes;
+ghost use Rattle.parameter_values.specs.Slots.{seen};
 
 use crate::inputs::{has_input, is_valued};
 use class_scopes::{File, Table};

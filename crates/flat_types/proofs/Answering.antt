@@ -14,7 +14,7 @@ use Rattle.flat_types.specs.declared.ends.TypeCode.{TypeCode}
 use Rattle.flat_types.specs.declared.ends.TypeEnd.{TypeEnd}
 use Rattle.flat_types.specs.declared.ends.TypeEnd.TheVariants.{Fault, NoMemory}
 use Rattle.flat_types.specs.Typed.{clause_clock, equation_of, code_of, IsFirstOf, Breaks, clock, own, IsTypedAs, Answers}
-use Rattle.flat_types.specs.Checked.{Clocks, clause_code, behind_clause, checked, AreChecked, AreClocks}
+use Rattle.flat_types.specs.private.Checked.{Clocks, clause_code, behind_clause, checked, AreChecked, AreClocks}
 
 module _ (raw : RawModel) where
   abbrev clocks : Clocks

@@ -14,7 +14,7 @@ use Rattle.flat_model.specs.declared.clock.ClockExpr.TheVariants as c
 use Rattle.flat_model.specs.declared.clock.ClockExpr.TheOpen.{Expr-F}
 use Rattle.flat_model.specs.declared.clock.ClockExpr.TheFolds.{fold-Expr}
 use Rattle.flat_model.specs.Operators.{Answer, Is}
-use Rattle.flat_model.specs.Answers.{views_of}
+use Rattle.flat_model.specs.Values.{views_of}
 use Rattle.flat_model.specs.Arguments.{is_input}
 use Rattle.flat_model.specs.Counters.{is_counter}
 use Rattle.flat_model.specs.Meaning.{value_of}

@@ -2,7 +2,7 @@
 ghost use Rattle.std.specs.Prelude.{◌≡◌, IfOk, true};
 ghost use Rattle.flat_types.specs.Outcomes as spec;
 ghost use Rattle.flat_types.specs.Readings as node;
-ghost use Rattle.flat_types.specs.Shapes as shapes;
+ghost use Rattle.flat_types.specs.private.Shapes as shapes;
 
 use crate::callee::{Callee, Operator};
 use crate::counters::counter;

@@ -1,7 +1,7 @@
 //! Counters, factors and resolutions.
 ghost use Rattle.std.specs.Prelude.{◌≡◌, map};
 ghost use Rattle.std.specs.List.{list_all};
-ghost use Rattle.flat_model.specs.Answers.{stated};
+ghost use Rattle.flat_model.specs.Values.{stated};
 ghost use Rattle.flat_types.specs.Outcomes as spec;
 
 use crate::outcome::Outcome;
@@ -49,12 +49,15 @@ fn is_constant(expr: &Expr) -> bool
     }
 }
 
+/// No counter reaches it.
+const COUNTER_LIMIT: u32 = 0x8000_0000;
+
 /// A number from `least` to 2^31-1.
 fn number_from(least: u32, number: i64) -> Option<u32>
     ensures { result ≡ spec.number_in least number }
 {
     let number = u32::try_from(number).ok()?;
-    (least <= number && number < 0x8000_0000).then_some(number)
+    (least <= number && number < COUNTER_LIMIT).then_some(number)
 }
 
 /// An answer that is such a number.

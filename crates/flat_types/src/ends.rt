@@ -1,6 +1,8 @@
 ghost use Rattle.std.specs.Prelude.{◌≡◌};
 
 use std::alloc::{AllocError, AllocFailed};
+use std::error::Error;
+use std::fmt;
 
 /// A rule of types and calls.
 #[derive(Clone, Copy, Debug, PartialEq, Eq)]
@@ -24,6 +26,20 @@ pub enum TypeEnd {
     Fault { code: TypeCode, equation: u32 },
     NoMemory,
 }
+
+impl fmt::Display for TypeEnd {
+    fn fmt<W: fmt::Write>(&self, f: &mut fmt::Formatter<W>) -> fmt::Result {
+        match self {
+            TypeEnd::Fault { code, equation } => write!(
+                f,
+                "{code:?} at equation {equation}, counted from 0"
+            ),
+            TypeEnd::NoMemory => write!(f, "no memory"),
+        }
+    }
+}
+
+impl Error for TypeEnd {}
 
 impl From<AllocError> for TypeEnd {
     ghost use Rattle.flat_types.specs.declared.ends.TypeEnd.{TypeEnd};

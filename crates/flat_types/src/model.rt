@@ -3,7 +3,7 @@ ghost use Rattle.std.specs.Prelude.{◌≡◌, ◌<◌, ◌^◌, IfOk, map, leng
 ghost use Rattle.flat_model.specs.RawModels.{AreClausesUsed};
 ghost use Rattle.flat_types.specs.Outcomes as outcomes;
 ghost use Rattle.flat_types.specs.Typed as spec;
-ghost use Rattle.flat_types.specs.Checked as checked;
+ghost use Rattle.flat_types.specs.private.Checked as checked;
 
 use crate::ends::{TypeCode, TypeEnd};
 use crate::named::type_of_part;

@@ -5,7 +5,7 @@ ghost use Rattle.flat_model.specs.Typing as typing;
 ghost use Rattle.flat_model.specs.declared.expression.Expr.TheVariants as tree;
 ghost use Rattle.flat_types.specs.Outcomes as spec;
 ghost use Rattle.flat_types.specs.Readings as node;
-ghost use Rattle.flat_types.specs.Shapes as shapes;
+ghost use Rattle.flat_types.specs.private.Shapes as shapes;
 
 use crate::ends::TypeCode;
 use crate::named::type_of_part;

@@ -2,7 +2,7 @@
 ghost use Rattle.std.specs.Prelude.{◌≡◌, ◌≢◌, ◌≤◌, [], ◌∷◌, IfOk, MatchOption, map, length, Some};
 ghost use Rattle.std.specs.Option.{option_copied};
 ghost use Rattle.flat_types.specs.Readings as node;
-ghost use Rattle.flat_types.specs.Shapes as shapes;
+ghost use Rattle.flat_types.specs.private.Shapes as shapes;
 ghost use Rattle.flat_types.specs.declared.callee.Callee.TheVariants as callees;
 
 use crate::callee::{Callee, called};

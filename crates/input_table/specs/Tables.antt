@@ -16,6 +16,10 @@ use Rattle.input_table.specs.Fields.{Record}
 use Rattle.input_table.specs.Headers.{BeginsAs, IsHeader, IsWrongColumn, IsMissing}
 use Rattle.input_table.specs.Rows.{Row, BreaksIn, AreRows, last_row, times_of, cells_of}
 
+-- how many bytes a table has at most
+abbrev pub table_limit : ℕ
+table_limit = 16777216
+
 -- the records of the bytes: fields between commas, in double quotes or not, of any number
 abbrev pub records_of : List ℕ → List Record
 records_of bytes = records default_config (strip_bom bytes)

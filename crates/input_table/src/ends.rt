@@ -1,5 +1,7 @@
 use flat_model::Place;
 use std::alloc::AllocError;
+use std::error::Error;
+use std::fmt;
 
 /// A rule of the table. This project's own.
 #[derive(Clone, Copy, Debug, PartialEq, Eq)]
@@ -27,6 +29,17 @@ pub enum TableEnd {
     Fault { code: TableCode, place: Place },
     NoMemory,
 }
+
+impl fmt::Display for TableEnd {
+    fn fmt<W: fmt::Write>(&self, f: &mut fmt::Formatter<W>) -> fmt::Result {
+        match self {
+            TableEnd::Fault { code, place } => write!(f, "{code:?} at {place:?}"),
+            TableEnd::NoMemory => write!(f, "no memory"),
+        }
+    }
+}
+
+impl Error for TableEnd {}
 
 impl From<AllocError> for TableEnd {
     ghost use Rattle.std.specs.Prelude.{◌≡◌};

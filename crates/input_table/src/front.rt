@@ -11,6 +11,9 @@ use flat_model::NameKind;
 use rational_time::{Ratio, make};
 use sync_values::Value;
 
+/// No instant of a table reaches so many seconds.
+const TIME_LIMIT: u64 = 1_048_576;
+
 /// What follows a mark in front of a text.
 #[inline(always)]
 pub(crate) fn behind(mark: u8, text: &[u8]) -> Option<&[u8]>
@@ -69,7 +72,7 @@ fn decimal_front(whole: u64, part: &[u8]) -> Option<(u64, u64, &[u8])>
     ensures { IfSome result (λ r. (digits : List ℕ) × (part.now ≡ digits ++ r.2.now) × IsNumeral 9 digits
         × (r.0 ≡ whole * 10 ^ length digits + digits_value 10 digits) × (r.1 ≡ 10 ^ length digits)) }
 {
-    if whole >= 1 << 20 {
+    if whole >= TIME_LIMIT {
         return None;
     }
     let (digits, rest) = number_front(part)?;

@@ -2,7 +2,7 @@ ghost use Rattle.std.specs.Prelude.{◌≡◌, ◌≤◌, ◌<◌, ◌^◌, ◌�
 ghost use Rattle.flat_model.specs.Models.{IsModel};
 ghost use Rattle.flat_model.specs.Tables.{IsInput, IsTime, IsTableOf};
 ghost use Rattle.input_table.specs.Fields.{Record};
-ghost use Rattle.input_table.specs.Tables.{Answers, AnswersNone, records_of};
+ghost use Rattle.input_table.specs.Tables.{Answers, AnswersNone, records_of, table_limit};
 ghost use Rattle.input_table.specs.private.Standing.{IsStanding};
 ghost use Rattle.input_table.specs.private.Reading.{BodyAnswers, WholeAnswers, IsReading, NextAnswers, ReadsPlain};
 
@@ -29,7 +29,7 @@ use sync_values::{List, Value};
 /// then those of each record in order.
 pub fn read_table(alloc: Global, flat: &FlatModel, bytes: &[u8]) -> Result<Table, TableEnd>
     requires model { IsModel flat.now }
-    requires short { length bytes.now ≤ 16777216 }
+    requires short { length bytes.now ≤ table_limit }
     ensures answers { Answers flat.now.names (records_of bytes.now) result }
     ensures table { IfOk result (IsTableOf flat.now) }
 {
@@ -66,7 +66,7 @@ fn read_rows(
 ) -> Result<Table, TableEnd>
     requires inputs { All (IsInput names.now) columns }
     requires few { length columns < 2 ^ 31 }
-    requires short { length bytes.now ≤ 16777216 }
+    requires short { length bytes.now ≤ table_limit }
     requires standing { (header : Record) × IsStanding bytes.now (header ∷ []) records.old }
     ensures { (header : Record) → IsStanding bytes.now (header ∷ []) records.old
         → BodyAnswers form names.now columns (records_of bytes.now) header result }

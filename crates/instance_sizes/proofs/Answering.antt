@@ -11,7 +11,7 @@ use Rattle.flat_instances.specs.Kept.{seen}
 use Rattle.filled_instances.specs.Counting.{counts}
 use Rattle.class_sizes.specs.Owners.{has_own}
 use Rattle.instance_sizes.specs.Counts.{equation_count, token_count}
-use Rattle.instance_sizes.specs.Parts.{has_part}
+use Rattle.instance_sizes.specs.Contributing.{contributes}
 use Rattle.instance_sizes.specs.N10 as N10
 use Rattle.instance_sizes.specs.private.Measures.{HasMany, HaveFew, Exceeds}
 use Rattle.instance_sizes.proofs.Filtered.{same_filter, same_variables, same_count, same_tokens}
@@ -19,10 +19,10 @@ use Rattle.instance_sizes.proofs.Laws.{first_place, is_kept}
 
 -- the items that count where the classes are marked that have something of their own
 pub parts_kept : (text : List ℕ) (classes : List ClassDef) (own : List Bool) → ((class : ℕ) → is_marked own class ≡ has_own text classes class) → (all : List Item)
-    → filter (counts own) all ≡ filter (has_part text classes) all
-parts_kept text classes own marked all = same_filter (counts own) (has_part text classes) same all
+    → filter (counts own) all ≡ filter (contributes text classes) all
+parts_kept text classes own marked all = same_filter (counts own) (contributes text classes) same all
   where
-    same : (item : Item) → counts own item ≡ has_part text classes item
+    same : (item : Item) → counts own item ≡ contributes text classes item
     same (Declared v) = refl
     same (Own scope class) = marked class
 
@@ -36,7 +36,7 @@ module _ (text : List ℕ) (classes : List ClassDef) (tokens : List Token) (chos
           let more : 65536 < equation_count text classes (instances text classes chosen) = omega (arith, equations) in
           N10.IsTooLarge.many_equations more
 
-  module _ (items : List KeptItem) (are : map (seen text classes) items ≡ filter (has_part text classes) (instances text classes chosen)) where
+  module _ (items : List KeptItem) (are : map (seen text classes) items ≡ filter (contributes text classes) (instances text classes chosen)) where
     same_names : variables text classes (map (seen text classes) items) ≡ variables text classes (instances text classes chosen)
     same_names = ap (variables text classes) are ∙ same_variables text classes (instances text classes chosen)
 

@@ -10,33 +10,34 @@ use Rattle.parameter_values.specs.Values.{Values}
 use Rattle.flat_expressions.specs.Expressions.{NumberOf}
 use Rattle.flat_expressions.specs.Equations.{groups, equations_from}
 use Rattle.connection_equations.specs.Connections.{pairs}
+use Rattle.flat_model.specs.Models.{size_limit}
 use Rattle.instance_sizes.specs.Counts.{number_in}
-use Rattle.instance_sizes.specs.Parts.{has_part}
+use Rattle.instance_sizes.specs.Contributing.{contributes}
 use Rattle.instance_sizes.specs.N10 as N10
 
 -- the items that have a part have the variables, the equations and the pairs of all
 abbrev pub SameVariablesLaw : Type 0
 SameVariablesLaw = (text : List ℕ) (classes : List ClassDef) (all : List Item)
-    → variables text classes (filter (has_part text classes) all) ≡ variables text classes all
+    → variables text classes (filter (contributes text classes) all) ≡ variables text classes all
 
 abbrev pub SameGroupsLaw : Type 0
 SameGroupsLaw = (text : List ℕ) (classes : List ClassDef) (values : Values) (number : NumberOf) (all : List Item)
-    → groups text values number classes (filter (has_part text classes) all) ≡ groups text values number classes all
+    → groups text values number classes (filter (contributes text classes) all) ≡ groups text values number classes all
 
 abbrev pub SamePairsLaw : Type 0
 SamePairsLaw = (text : List ℕ) (classes : List ClassDef) (number : Ident → Option ℕ) (all : List Item)
-    → pairs text classes number (filter (has_part text classes) all) ≡ pairs text classes number all
+    → pairs text classes number (filter (contributes text classes) all) ≡ pairs text classes number all
 
 -- where N10 is kept, a model has at most so many names, and equations with the pairs of its connects
 abbrev pub FewNamesLaw : Type 0
 FewNamesLaw = (text : List ℕ) (classes : List ClassDef) (tokens : List Token) (chosen : ℕ) → IsKept (N10.Breaks text classes tokens (Some chosen))
-    → length (variables text classes (instances text classes chosen)) ≤ 65536
+    → length (variables text classes (instances text classes chosen)) ≤ size_limit
 
 abbrev pub FewEquationsLaw : Type 0
 FewEquationsLaw = (text : List ℕ) (classes : List ClassDef) (tokens : List Token) (chosen : ℕ) → IsKept (N10.Breaks text classes tokens (Some chosen))
     → (values : Values) (number : NumberOf) (clause : ℕ)
     → length (equations_from clause (groups text values number classes (instances text classes chosen)))
-    + length (pairs text classes (number_in text classes (instances text classes chosen)) (instances text classes chosen)) ≤ 65536
+    + length (pairs text classes (number_in text classes (instances text classes chosen)) (instances text classes chosen)) ≤ size_limit
 
 -- N10 is broken at one place
 abbrev pub OnePlaceLaw : Type 0

@@ -1,6 +1,6 @@
 pub mod Counts
 pub mod Laws
 pub mod N10
-pub mod Parts
+pub mod Contributing
 pub mod Sizes
 pub mod private

@@ -4,14 +4,19 @@ use Rattle.mo_lexer.specs.declared.token.Token.{Token}
 use Rattle.mo_parser.specs.declared.tree.ClassDef.{ClassDef}
 use Rattle.class_order.specs.Places.{name_at}
 use Rattle.flat_instances.specs.Instances.{instances, variables}
+use Rattle.flat_model.specs.Models.{size_limit}
 use Rattle.instance_sizes.specs.Counts.{equation_count, token_count}
+
+-- how many tokens a model has at most
+abbrev pub token_limit : ℕ
+token_limit = 4194304
 
 module _ (text : List ℕ) (classes : List ClassDef) (tokens : List Token) where
   -- names are all variables, parameters, constants and Clocks of all instances; equations are counted with the pairs of connects
   pub data IsTooLarge (root : ℕ) : Type 0 where
-    many_names : 65536 < length (variables text classes (instances text classes root)) → IsTooLarge root
-    many_equations : 65536 < equation_count text classes (instances text classes root) → IsTooLarge root
-    many_tokens : 4194304 < token_count text classes tokens (instances text classes root) → IsTooLarge root
+    many_names : size_limit < length (variables text classes (instances text classes root)) → IsTooLarge root
+    many_equations : size_limit < equation_count text classes (instances text classes root) → IsTooLarge root
+    many_tokens : token_limit < token_count text classes tokens (instances text classes root) → IsTooLarge root
 
   -- where the rule is broken: at the name of the chosen class
   abbrev pub Breaks : Option ℕ → ℕ → Type 0

@@ -11,13 +11,13 @@ use Rattle.class_scopes.specs.Faults.{IsFirstOf, IsKept}
 use Rattle.flat_instances.specs.declared.item.Item.{Item as KeptItem}
 use Rattle.flat_instances.specs.Instances.{instances}
 use Rattle.flat_instances.specs.Kept.{seen}
-use Rattle.instance_sizes.specs.Parts.{has_part}
+use Rattle.instance_sizes.specs.Contributing.{contributes}
 use Rattle.instance_sizes.specs.N10 as N10
 
 -- the items that have a part in the model, in flat order, where N10 is kept, and else its place
 abbrev pub Sizes : List ℕ → List ClassDef → List Token → ℕ → Result (Vec KeptItem Global) RuleEnd → Type 0
 Sizes text classes tokens chosen (Ok items) = IsKept (N10.Breaks text classes tokens (Some chosen))
-    × (map (seen text classes) items.items ≡ filter (has_part text classes) (instances text classes chosen))
+    × (map (seen text classes) items.items ≡ filter (contributes text classes) (instances text classes chosen))
 Sizes text classes tokens chosen (Err (Broken code.N10 at)) = IsFirstOf (N10.Breaks text classes tokens (Some chosen)) at
 Sizes text classes tokens chosen (Err (Broken other at)) = ⊥
 Sizes text classes tokens chosen (Err NoMemory) = ⊤

@@ -4,6 +4,7 @@ ghost use Rattle.class_scopes.specs.Tables.{number_of};
 ghost use Rattle.flat_instances.specs.Instances.{variables};
 ghost use Rattle.flat_instances.specs.Kept as kept;
 ghost use Rattle.connection_equations.specs.Connections as connections;
+ghost use Rattle.flat_model.specs.Models.{size_limit};
 ghost use Rattle.instance_sizes.specs.Counts as counts;
 
 use crate::names::{free_names, table_of_names};
@@ -44,7 +45,7 @@ pub fn pair_count(
     scopes: &Scopes<'_>,
     items: &[Item<'_>],
 ) -> Result<usize, AllocError>
-    requires { length (variables scopes.now.named.file.text.now scopes.now.named.file.classes.now (map (kept.seen scopes.now.named.file.text.now scopes.now.named.file.classes.now) items.now)) ≤ 65536 }
+    requires { length (variables scopes.now.named.file.text.now scopes.now.named.file.classes.now (map (kept.seen scopes.now.named.file.text.now scopes.now.named.file.classes.now) items.now)) ≤ size_limit }
     ensures { IfOk result (λ count. count ≡ min (length (connections.pairs scopes.now.named.file.text.now scopes.now.named.file.classes.now (counts.number_in scopes.now.named.file.text.now scopes.now.named.file.classes.now (map (kept.seen scopes.now.named.file.text.now scopes.now.named.file.classes.now) items.now)) (map (kept.seen scopes.now.named.file.text.now scopes.now.named.file.classes.now) items.now))) MANY_EQUATIONS) }
 {
     let found = free_names(alloc, items)?;

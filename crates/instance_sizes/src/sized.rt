@@ -5,7 +5,7 @@ ghost use Rattle.class_order.specs.Orders.{ArePartsFirst};
 ghost use Rattle.class_order.specs.Places as places;
 ghost use Rattle.flat_instances.specs.Instances.{instances};
 ghost use Rattle.flat_instances.specs.Kept as kept;
-ghost use Rattle.instance_sizes.specs.Parts.{has_part};
+ghost use Rattle.instance_sizes.specs.Contributing.{contributes};
 ghost use Rattle.instance_sizes.specs.Sizes as sizes;
 ghost use Rattle.instance_sizes.specs.private.Measures as measures;
 
@@ -71,7 +71,7 @@ fn walked<'a>(
 ) -> Result<Vec<Item<'a>>, AllocError>
     requires reached { AreReached scopes.now.named.file.text.now scopes.now.named.file.classes.now scopes.now.named.chosen scopes.now.named.reached.items }
     requires order { ArePartsFirst scopes.now.named.file.text.now scopes.now.named.file.classes.now scopes.now.named.chosen order.now }
-    ensures { IfOk result (λ items. map (kept.seen scopes.now.named.file.text.now scopes.now.named.file.classes.now) items.items ≡ filter (has_part scopes.now.named.file.text.now scopes.now.named.file.classes.now) (instances scopes.now.named.file.text.now scopes.now.named.file.classes.now scopes.now.named.chosen)) }
+    ensures { IfOk result (λ items. map (kept.seen scopes.now.named.file.text.now scopes.now.named.file.classes.now) items.items ≡ filter (contributes scopes.now.named.file.text.now scopes.now.named.file.classes.now) (instances scopes.now.named.file.text.now scopes.now.named.file.classes.now scopes.now.named.chosen)) }
 {
     let named = &scopes.named;
     let owners = owners(alloc, scopes)?;

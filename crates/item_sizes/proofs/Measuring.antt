@@ -13,7 +13,7 @@ use Rattle.flat_instances.specs.Kept.{seen, seen_variable}
 use Rattle.parameter_values.specs.Values.{is_fixed}
 use Rattle.instance_totals.specs.Weights.{number_at}
 use Rattle.item_sizes.specs.Items.{given_tokens, binding_equations, binding_tokens, item_equations}
-use Rattle.item_sizes.specs.private.Measures.{declared, AreCounted, IsSize}
+use Rattle.item_sizes.specs.Measures.{declared, AreCounted, IsSize}
 
 binding_few : (fixed : Bool) (binding : Option Placed) → binding_equations fixed binding ≤ 1
 binding_few true None = omega arith

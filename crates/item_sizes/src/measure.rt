@@ -1,7 +1,7 @@
 //! What items of instances count.
 ghost use Rattle.std.specs.Prelude.{map};
 ghost use Rattle.flat_instances.specs.Kept as kept;
-ghost use Rattle.item_sizes.specs.private.Measures as measures;
+ghost use Rattle.item_sizes.specs.Measures as measures;
 
 use crate::bindings::{binding_equations, binding_tokens, given_tokens, is_fixed};
 use crate::size::{MANY_EQUATIONS, MANY_TOKENS, Size};

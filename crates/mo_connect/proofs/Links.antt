@@ -5,7 +5,7 @@ use Rattle.std.proofs.lemmas.List.{get_or-set_same, get_or-set_other, get_or_def
 use Rattle.std.proofs.lemmas.List.Elements.{Contains-push, Contains-push_cases, Contains-append_left}
 use Rattle.mo_connect.specs.declared.Pair.{Pair}
 use Rattle.mo_connect.specs.Chain.{Chain, stay, forward, backward, IsPair, AreJoined}
-use Rattle.mo_connect.specs.Links.{parent_of, IsRoot, Falls, AreLinked, KeepsLinks, LinksJoined}
+use Rattle.mo_connect.specs.private.Links.{parent_of, IsRoot, Falls, AreLinked, KeepsLinks, LinksJoined}
 use Rattle.mo_connect.proofs.Chains.{follow, reversed, refined}
 
 -- a number and its parent

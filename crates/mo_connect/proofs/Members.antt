@@ -5,8 +5,8 @@ use Rattle.std.proofs.lemmas.List.{get_or-set_same, get_or-set_other, get_or_app
 use Rattle.std.proofs.lemmas.List.Elements.{Contains-push, Contains-push_cases, Contains-append_left, Contains-get_or}
 use Rattle.std.specs.List.{Contains}
 use Rattle.std.specs.List.Sorted.{IsStrictlyIncreasing}
-use Rattle.mo_connect.specs.Links.{parent_of, IsRoot, IsFlat}
-use Rattle.mo_connect.specs.Gathered.{HasMembers, with_member}
+use Rattle.mo_connect.specs.private.Links.{parent_of, IsRoot, IsFlat}
+use Rattle.mo_connect.specs.private.Gathered.{HasMembers, with_member}
 
 no_member : (x : ℕ) → Contains [] x → ⊥
 no_member x (k, within, is) = omega (arith, within)

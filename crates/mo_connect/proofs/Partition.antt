@@ -8,8 +8,8 @@ use Rattle.std.specs.List.{All, AllPairs, Any, Contains, filter}
 use Rattle.mo_connect.specs.declared.Pair.{Pair}
 use Rattle.mo_connect.specs.Chain.{stay, forward, backward, AreJoined}
 use Rattle.mo_connect.specs.Classes.{AreClasses}
-use Rattle.mo_connect.specs.Links.{parent_of, IsFlat, AreLinked, LinksJoined}
-use Rattle.mo_connect.specs.Gathered.{HasMembers, is_filled}
+use Rattle.mo_connect.specs.private.Links.{parent_of, IsFlat, AreLinked, LinksJoined}
+use Rattle.mo_connect.specs.private.Gathered.{HasMembers, is_filled}
 use Rattle.mo_connect.proofs.Chains.{unchanged}
 
 filled_some : (xs : List ℕ) → is_filled xs ≡ true → xs ≢ []

@@ -1,4 +1,3 @@
 pub mod Chain
 pub mod Classes
-pub mod Links
-pub mod Gathered
+pub mod private

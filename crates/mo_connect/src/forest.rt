@@ -2,7 +2,7 @@
 ghost use Rattle.std.specs.Prelude.{◌≡◌, ℕ, ◌<◌, ◌≤◌, [], ◌∷◌, ◌++◌, List, length, IfOk, vec_len};
 ghost use Rattle.mo_connect.specs.declared.Pair.{Pair};
 ghost use Rattle.mo_connect.specs.Chain.{AreBelow};
-ghost use Rattle.mo_connect.specs.Links.{IsRoot, Falls, IsFlat, AreLinked, KeepsLinks, LinksJoined};
+ghost use Rattle.mo_connect.specs.private.Links.{IsRoot, Falls, IsFlat, AreLinked, KeepsLinks, LinksJoined};
 
 use crate::Pair;
 use std::alloc::{AllocError, Global};

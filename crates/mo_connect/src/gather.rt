@@ -1,7 +1,7 @@
 //! The numbers under each root, gathered into lists.
 ghost use Rattle.std.specs.Prelude.{◌≡◌, ℕ, ◌<◌, [], ◌∷◌, ◌++◌, length, slice_index_or, IfOk, OnOk, filter, vec_len};
-ghost use Rattle.mo_connect.specs.Links.{Falls, IsFlat};
-ghost use Rattle.mo_connect.specs.Gathered.{HasMembers, is_filled, with_member};
+ghost use Rattle.mo_connect.specs.private.Links.{Falls, IsFlat};
+ghost use Rattle.mo_connect.specs.private.Gathered.{HasMembers, is_filled, with_member};
 
 use std::alloc::{AllocError, Global};
 use sync_values::List;

@@ -9,24 +9,14 @@ ghost use Rattle.mo_connect.specs.Classes.{AreClasses};
 mod forest;
 mod gather;
 
-use std::alloc::{AllocError, Global};
-use sync_values::List;
+use std::alloc::Global;
+use sync_values::{List, NoMemory};
 
 /// Two numbers that belong together.
 #[derive(Clone, Copy)]
 pub struct Pair {
     pub a: u32,
     pub b: u32,
-}
-
-/// Memory was refused.
-#[derive(Clone, Copy, Debug)]
-pub struct NoMemory;
-
-impl From<AllocError> for NoMemory {
-    fn from(_error: AllocError) -> Self {
-        NoMemory
-    }
 }
 
 /// The classes of at least two members of the smallest equivalence on the numbers below `count` that holds the

@@ -14,16 +14,16 @@ use Rattle.class_scopes.specs.Tables.{Numbered, number_of, IsTableOf}
 use Rattle.scope_names.specs.declared.scopes.Scopes.{Scopes}
 use Rattle.flat_instances.specs.Instances.{Item, Variable}
 use Rattle.parameter_values.specs.Values.{Values}
-use Rattle.flat_expressions.specs.Answers.{NumbersFit}
+use Rattle.flat_expressions.specs.Following.{NumbersFit}
 use Rattle.flat_expressions.specs.Equations.{groups, equations_from, clocks_of}
 use Rattle.flat_expressions.specs.Expressions.{NumberOf}
-use Rattle.flat_expressions.specs.declared.items.Told.{Told}
+use Rattle.flat_expressions.specs.declared.items.Lowered.{Lowered}
 use Rattle.connection_equations.specs.Connections.{pairs, NumbersBelow}
 use Rattle.connection_equations.specs.Sets.{AreEquations}
 use Rattle.connection_equations.proofs.Tabled.{table_below}
 use Rattle.flat_answer.specs.Flat.{IsNameOf}
 use Rattle.flat_answer.specs.Model.{names_of, number_in}
-use Rattle.mo_flatten.specs.private.Models.{named, IsTold, IsModelOf}
+use Rattle.mo_flatten.specs.private.Models.{named, IsLowered, IsModelOf}
 
 -- the numbers of a table of few names
 pub few_numbers : (names : List FlatName) (table : Numbered) → IsTableOf (map (λ name. name.text) names) table → NumbersBelow (length names) (number_of table)
@@ -53,12 +53,12 @@ module _ (text : List ℕ) (classes : List ClassDef) (chosen : Option ℕ) (valu
       → IsTableOf (map (λ name. name.text) names) table → number_of table ≡ number_in vs
   numbers_are vs names table all tabled = fun_ext (λ name. tabled name ∙ ap (position_from (bytes_eq name) 0) (texts_are vs names all))
 
-pub is_told : (scopes : Scopes) (items : List Item) (values : Values) (number : NumberOf) (r : Result Told AllocError)
+pub is_lowered : (scopes : Scopes) (items : List Item) (values : Values) (number : NumberOf) (r : Result Lowered AllocError)
     → IfOk r (λ found. found.equations ≡ equations_from 0 (groups scopes.named.file.text.now values number scopes.named.file.classes.now items))
     → IfOk r (λ found. found.clauses ≡ clocks_of (groups scopes.named.file.text.now values number scopes.named.file.classes.now items))
-    → IfOk r (IsTold scopes items values number)
-is_told scopes items values number (Ok told) one other = record { equations = one; clauses = other }
-is_told scopes items values number (Err end) one other = tt
+    → IfOk r (IsLowered scopes items values number)
+is_lowered scopes items values number (Ok lowered) one other = record { equations = one; clauses = other }
+is_lowered scopes items values number (Err end) one other = tt
 
 module _ (scopes : Scopes) (items : List Item) (values : Values) (names : List FlatName) (table : Numbered)
     (zipped : AllZip (IsNameOf scopes.named.file.text.now scopes.named.file.classes.now (Some scopes.named.chosen) values) (named scopes items) names)
@@ -75,15 +75,15 @@ module _ (scopes : Scopes) (items : List Item) (values : Values) (names : List F
   many : length names ≡ length (named scopes items)
   many = as_many text classes (Some scopes.named.chosen) values (named scopes items) names zipped
 
-  pub modelled : (equations told connections : List RawEq) (clauses : List RawExpr)
-      → told ≡ equations_from 0 (groups text values (number_of table) classes items) → clauses ≡ clocks_of (groups text values (number_of table) classes items)
-      → AreEquations (length names) (pairs text classes (number_of table) items) connections → equations ≡ told ++ connections
+  pub modelled : (equations lowered connections : List RawEq) (clauses : List RawExpr)
+      → lowered ≡ equations_from 0 (groups text values (number_of table) classes items) → clauses ≡ clocks_of (groups text values (number_of table) classes items)
+      → AreEquations (length names) (pairs text classes (number_of table) items) connections → equations ≡ lowered ++ connections
       → IsModelOf scopes items values (record { names = names; equations = equations; clauses = clauses })
-  modelled equations told connections clauses told_are clauses_are connected joined = record {
+  modelled equations lowered connections clauses lowered_are clauses_are connected joined = record {
     names = zipped;
     connections = connections;
     connected = subst (λ n. AreEquations n (pairs text classes (number_in (named scopes items)) items) connections) many
         (subst (λ f. AreEquations (length names) (pairs text classes f items) connections) numbers connected);
-    equations = joined ∙ ap (λ t. t ++ connections) (told_are ∙ ap (λ f. equations_from 0 (groups text values f classes items)) numbers);
+    equations = joined ∙ ap (λ t. t ++ connections) (lowered_are ∙ ap (λ f. equations_from 0 (groups text values f classes items)) numbers);
     clauses = clauses_are ∙ ap (λ f. clocks_of (groups text values f classes items)) numbers;
   }

@@ -26,7 +26,7 @@ use Rattle.flat_expressions.specs.Expressions.{NumberOf}
 use Rattle.connection_equations.specs.Connections.{pairs}
 use Rattle.connection_equations.specs.Sets.{AreEquations}
 use Rattle.instance_sizes.specs.N10 as N10
-use Rattle.instance_sizes.specs.Parts.{has_part}
+use Rattle.instance_sizes.specs.Contributing.{contributes}
 use Rattle.instance_sizes.proofs.Laws.{same_variables, same_groups, same_pairs, few_names, few_equations}
 use Rattle.flat_answer.specs.Answers.{Answers, told, told_among}
 use Rattle.flat_answer.specs.Broken.{rank, Breaks, KeepsBefore, KeepsAll, IsFirst}

@@ -1,11 +1,11 @@
 //! The flat model of a class, or the first broken rule.
-ghost use Rattle.std.specs.Prelude.{◌≡◌, ◌≤◌, ◌^◌, IfOk, Some, length, option_map};
+ghost use Rattle.std.specs.Prelude.{◌≡◌, ◌≤◌, IfOk, Some, length, option_map};
 ghost use Rattle.class_scopes.specs.Reached.{chosen_by};
 ghost use Rattle.flat_answer.specs.Answers.{Answers};
 ghost use Rattle.flat_model.specs.RawModels.{IsRawModel};
 ghost use Rattle.mo_flatten.specs.Texts.{IsTreeOf};
 ghost use Rattle.mo_flatten.specs.private.Stages as stages;
-ghost use Rattle.mo_lexer.specs.Tokens.{HasTokens};
+ghost use Rattle.mo_lexer.specs.Tokens.{HasTokens, model_limit};
 
 use crate::faults::value_end;
 use crate::model::model_of;
@@ -44,7 +44,7 @@ fn valued<'a>(
 
 /// The flat model of the chosen class, or the first broken rule from N4 on.
 fn flattened<'a>(alloc: Global, scopes: &'a Scopes<'a>) -> Result<RawModel, FlattenEnd>
-    requires size { length scopes.now.named.file.text.now ≤ 2 ^ 20 }
+    requires size { length scopes.now.named.file.text.now ≤ model_limit }
     requires tokens { HasTokens scopes.now.named.file.text.now }
     requires scoped { stages.IsScoped scopes.now }
     ensures { Answers scopes.now.named.file.text.now scopes.now.named.file.classes.now (Some scopes.now.named.chosen) result }
@@ -80,7 +80,7 @@ pub fn flatten(
     tree: &Tree,
     class: Option<&str>,
 ) -> Result<RawModel, FlattenEnd>
-    requires size { length text.now ≤ 2 ^ 20 }
+    requires size { length text.now ≤ model_limit }
     requires tree { IsTreeOf text.now tree.now }
     ensures answer { Answers text.now tree.now.classes (chosen_by text.now tree.now.classes (option_map (λ name. name.now) class.entry)) result }
     ensures raw { IfOk result IsRawModel }

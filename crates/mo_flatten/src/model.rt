@@ -9,12 +9,13 @@ ghost use Rattle.flat_answer.specs.Model.{plain};
 ghost use Rattle.flat_expressions.specs.Equations as eqs;
 ghost use Rattle.flat_instances.specs.Instances.{variables};
 ghost use Rattle.flat_instances.specs.Kept.{seen};
+ghost use Rattle.flat_model.specs.Models.{size_limit};
 ghost use Rattle.mo_flatten.specs.private.Models as models;
-ghost use Rattle.parameter_values.specs.private.Slots as slots;
+ghost use Rattle.parameter_values.specs.Slots as slots;
 
 use class_scopes::Table;
 use connection_equations::{Joiner, connection_equations};
-use flat_expressions::{Teller, Told};
+use flat_expressions::{Lowered, Lowering};
 use flat_instances::Item;
 use flat_model::{FlatName, RawEq, RawModel};
 use flat_names::{Namer, name_table, outer_table};
@@ -45,27 +46,27 @@ fn names_of<'a>(
 }
 
 /// The equations and clauses of the instances, without those of connections.
-fn told_of(
+fn lowered_of(
     alloc: Global,
     scopes: &Scopes<'_>,
     items: &[Item<'_>],
     values: &ModelValues,
     names: &[FlatName],
     table: &Table,
-) -> Result<Told, AllocError>
-    requires few { length names.now ≤ 65536 }
+) -> Result<Lowered, AllocError>
+    requires few { length names.now ≤ size_limit }
     requires table { IsTableOf (map (λ name. name.text) names.now) table.now }
     requires clauses { models.HasFewClauses scopes.now (map (seen scopes.now.named.file.text.now scopes.now.named.file.classes.now) items.now) }
-    ensures { IfOk result (models.IsTold scopes.now (map (seen scopes.now.named.file.text.now scopes.now.named.file.classes.now) items.now) (slots.seen values.now.table values.now.found.items) (number_of table.now)) }
+    ensures { IfOk result (models.IsLowered scopes.now (map (seen scopes.now.named.file.text.now scopes.now.named.file.classes.now) items.now) (slots.seen values.now.table values.now.found.items) (number_of table.now)) }
 {
-    let teller = Teller {
+    let lowering = Lowering {
         alloc,
         text: scopes.named.file.text,
         parameters: &values.table,
         values: values.found.as_slice(),
         names: table,
     };
-    teller.equations_told(scopes.named.file.classes, items)
+    lowering.equations_lowered(scopes.named.file.classes, items)
 }
 
 /// The equations of the connections.
@@ -76,7 +77,7 @@ fn connections_of(
     names: &[FlatName],
     table: &Table,
 ) -> Result<List<RawEq>, AllocError>
-    requires few { length names.now ≤ 65536 }
+    requires few { length names.now ≤ size_limit }
     requires table { IsTableOf (map (λ name. name.text) names.now) table.now }
     ensures { IfOk result (AreEquations (length names.now) (pairs scopes.now.named.file.text.now scopes.now.named.file.classes.now (number_of table.now) (map (seen scopes.now.named.file.text.now scopes.now.named.file.classes.now) items.now))) }
 {
@@ -116,7 +117,7 @@ pub fn model_of<'a>(
 {
     let names = names_of(alloc, scopes, items, values)?;
     let numbers = name_table(alloc, names.as_slice())?;
-    let told = told_of(
+    let lowered = lowered_of(
         alloc,
         scopes,
         items,
@@ -125,7 +126,7 @@ pub fn model_of<'a>(
         &numbers.table,
     )?;
     let connections = connections_of(alloc, scopes, items, names.as_slice(), &numbers.table)?;
-    let Told { equations, clauses } = told;
+    let Lowered { equations, clauses } = lowered;
     let equations = joined(equations, connections)?;
     Ok(RawModel {
         names,

@@ -1,6 +1,7 @@
 //! The places of broken rules.
-ghost use Rattle.std.specs.Prelude.{◌≡◌, ◌≤◌, ◌^◌, length};
+ghost use Rattle.std.specs.Prelude.{◌≡◌, ◌≤◌, length};
 ghost use Rattle.flat_answer.specs.Places.{place_at};
+ghost use Rattle.mo_lexer.specs.Tokens.{model_limit};
 ghost use Rattle.mo_flatten.specs.private.Ends.{end_of};
 
 use class_scopes::RuleEnd;
@@ -9,7 +10,7 @@ use flat_model::Place;
 
 /// The line and the column of the byte at a place of a text, both from 1. A place behind the end is that of the end.
 fn place_at(text: &[u8], at: u32) -> Place
-    requires { length text.now ≤ 2 ^ 20 }
+    requires { length text.now ≤ model_limit }
     ensures { result ≡ place_at text.now at }
 {
     let front = (at as usize).min(text.len());
@@ -28,7 +29,7 @@ fn place_at(text: &[u8], at: u32) -> Place
 
 /// A broken rule of the text, at its line and column.
 pub fn placed(text: &[u8], end: RuleEnd) -> FlattenEnd
-    requires { length text.now ≤ 2 ^ 20 }
+    requires { length text.now ≤ model_limit }
     ensures { result ≡ end_of text.now end }
 {
     match end {

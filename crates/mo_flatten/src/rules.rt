@@ -4,7 +4,7 @@ ghost use Rattle.class_scopes.specs.Names.{AreNamed};
 ghost use Rattle.class_scopes.specs.Reached.{chosen_by};
 ghost use Rattle.mo_parser.specs.declared.tree.ClassDef.{ClassDef as Class};
 ghost use Rattle.mo_flatten.specs.private.Stages as stages;
-ghost use Rattle.mo_lexer.specs.Tokens.{HasTokens};
+ghost use Rattle.mo_lexer.specs.Tokens.{HasTokens, model_limit};
 
 use argument_rules::misplaced_argument;
 use class_order::{class_order, too_deep};
@@ -83,7 +83,7 @@ fn ordered(alloc: Global, scopes: &Scopes<'_>) -> Result<Vec<usize>, RuleEnd>
 
 /// The tokens of a text that has some.
 fn tokens_of(alloc: Global, text: &[u8]) -> Result<List<Token>, RuleEnd>
-    requires size { length text.now ≤ 2 ^ 20 }
+    requires size { length text.now ≤ model_limit }
     requires tokens { HasTokens text.now }
     ensures { stages.Lexed text.now result }
 {
@@ -96,7 +96,7 @@ fn tokens_of(alloc: Global, text: &[u8]) -> Result<List<Token>, RuleEnd>
 
 /// What the instances of the chosen class have that counts, where no rule up to N10 is broken.
 pub fn sized<'a>(alloc: Global, scopes: &'a Scopes<'a>) -> Result<Vec<Item<'a>>, RuleEnd>
-    requires size { length scopes.now.named.file.text.now ≤ 2 ^ 20 }
+    requires size { length scopes.now.named.file.text.now ≤ model_limit }
     requires tokens { HasTokens scopes.now.named.file.text.now }
     requires scoped { stages.IsScoped scopes.now }
     ensures { stages.Sized scopes.now result }

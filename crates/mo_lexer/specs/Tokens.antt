@@ -14,6 +14,10 @@ use Rattle.mo_lexer.specs.declared.fault.LexEnd.TheVariants as ends
 use Rattle.mo_lexer.specs.Spelling.{Spells}
 use Rattle.mo_lexer.specs.Keywords.{keyword_of}
 
+-- how many bytes the text of a model has at most
+abbrev pub model_limit : ℕ
+model_limit = 1048576
+
 -- a piece of this kind and length begins the bytes, and no longer piece of any kind begins them
 pub record Begins (kind : Piece) (len : ℕ) (bytes : List ℕ) : Type 0 where
   pub within : len ≤ length bytes

@@ -3,7 +3,7 @@ ghost use Rattle.std.specs.List.{list_all};
 ghost use Rattle.mo_lexer.specs.Bytes.{is_digit};
 ghost use Rattle.mo_lexer.specs.Spelling.{Spells};
 ghost use Rattle.mo_lexer.specs.Keywords.{keyword_of};
-ghost use Rattle.mo_lexer.specs.Tokens.{Lexes, mark_len, token_of, value_of, word_token};
+ghost use Rattle.mo_lexer.specs.Tokens.{Lexes, mark_len, token_of, value_of, word_token, model_limit};
 ghost use Rattle.mo_lexer.specs.private.Front.{IsNext, noted};
 
 use crate::fault::{LexCode, LexEnd};
@@ -107,7 +107,7 @@ fn mark_len(text: &[u8]) -> usize
 ///
 /// Source: MLS 3.6, chapter 2, "Lexical Structure", in this project's profile.
 pub fn lex(alloc: Global, text: &[u8]) -> Result<List<Token>, LexEnd>
-    requires { length text.now ≤ 2 ^ 20 }
+    requires { length text.now ≤ model_limit }
     ensures { Lexes text.now result }
 {
     let mut tokens = List::new(alloc);

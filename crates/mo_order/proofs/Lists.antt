@@ -1,27 +1,27 @@
--- Rules that are told of all values find one list of values.
+-- Rules that are answered for all values find one list of values.
 use Rattle.std.proofs.Common.{◌≡◌, refl, ap, sym, ◌∙◌, subst, ℕ, zero, suc, ◌<◌, ◌⊎◌, inl, inr, List, [], ◌∷◌, length, Option, Some, None, slice_get, slice_set, arith}
 use Rattle.sync_values.specs.declared.value.Value.{Value}
 use Rattle.mo_order.specs.declared.queue.Given.{Given}
 use Rattle.mo_order.specs.declared.queue.Given.TheVariants.{Gives, Waits, Never}
-use Rattle.mo_order.specs.Values.{Slots, Rules, Larger, Tells, nothing, IsFound, AreAll, AreTold, OneListLaw}
+use Rattle.mo_order.specs.Values.{Slots, Rules, Larger, Answers, nothing, IsFound, AreAll, AreAnswered, OneListLaw}
 use Rattle.mo_order.proofs.Places.{get_within, set_size, set_back}
 use Rattle.mo_order.proofs.Queueing.{larger_self, no_value, long}
 
 -- what is given from some values is given from all larger ones
-grows : (rules : Rules) (a b : Slots) (x : ℕ) (v : Value) → AreTold rules → x < length a → Larger a b → rules a x ≡ Some v → rules b x ≡ Some v
+grows : (rules : Rules) (a b : Slots) (x : ℕ) (v : Value) → AreAnswered rules → x < length a → Larger a b → rules a x ≡ Some v → rules b x ≡ Some v
 grows rules a b x v are below larger gives = by told.0 told.1
   where
-    told : (given : Given) × Tells rules a x given
+    told : (given : Given) × Answers rules a x given
     told = are a x below
 
-    by : (given : Given) → Tells rules a x given → rules b x ≡ Some v
+    by : (given : Given) → Answers rules a x given → rules b x ≡ Some v
     by (Gives w) tells =
         let here = tells a (larger_self a) in
         let same : w ≡ v = cc (here, gives) in tells b larger ∙ ap Some same
     by (Waits m) tells = let here = tells.1 a (larger_self a) tells.0 in absurd (cc (here, gives))
     by Never tells = let here = tells a (larger_self a) in absurd (cc (here, gives))
 
-module _ (rules : Rules) (count : ℕ) (are : AreTold rules) (all : Slots) (is : AreAll rules count all) where
+module _ (rules : Rules) (count : ℕ) (are : AreAnswered rules) (all : Slots) (is : AreAll rules count all) where
   -- one value more that is found is there too
   found_more : (old : Slots) (x : ℕ) (v : Value) → Larger old all → rules old x ≡ Some v → slice_get old x ≡ Some None → Larger (slice_set old x (Some v)) all
   found_more old x v inner gives none = record { size = inner.size ∙ sym (set_size old x (Some v)); keeps = λ y w at. keeps y w (set_back old x (Some v) y (Some w) at) }

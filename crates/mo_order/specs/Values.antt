@@ -19,10 +19,10 @@ pub record Larger (old new : Slots) : Type 0 where
 
 -- what an item is given from some values, and why not: it is given so from all larger ones, as long as what it waits
 -- for has no value
-abbrev pub Tells : Rules → Slots → ℕ → Given → Type 0
-Tells rules slots x (Gives v) = (new : Slots) → Larger slots new → rules new x ≡ Some v
-Tells rules slots x (Waits m) = (slice_get slots m ≡ Some None) × ((new : Slots) → Larger slots new → slice_get new m ≡ Some None → rules new x ≡ None)
-Tells rules slots x Never = (new : Slots) → Larger slots new → rules new x ≡ None
+abbrev pub Answers : Rules → Slots → ℕ → Given → Type 0
+Answers rules slots x (Gives v) = (new : Slots) → Larger slots new → rules new x ≡ Some v
+Answers rules slots x (Waits m) = (slice_get slots m ≡ Some None) × ((new : Slots) → Larger slots new → slice_get new m ≡ Some None → rules new x ≡ None)
+Answers rules slots x Never = (new : Slots) → Larger slots new → rules new x ≡ None
 
 -- so many places without a value
 abbrev pub nothing : ℕ → Slots
@@ -39,10 +39,10 @@ pub record AreAll (rules : Rules) (count : ℕ) (slots : Slots) : Type 0 where
   pub size : length slots ≡ count
   pub closed : (x : ℕ) (v : Value) → x < count → rules slots x ≡ Some v → slice_get slots x ≡ Some (Some v)
 
--- some answer tells what each item is given, from any values
-abbrev pub AreTold : Rules → Type 0
-AreTold rules = (slots : Slots) (x : ℕ) → x < length slots → (given : Given) × Tells rules slots x given
+-- some answer says what each item is given, from any values
+abbrev pub AreAnswered : Rules → Type 0
+AreAnswered rules = (slots : Slots) (x : ℕ) → x < length slots → (given : Given) × Answers rules slots x given
 
--- rules that are told of all values find one list of values
+-- rules that are answered for all values find one list of values
 abbrev pub OneListLaw : Type 0
-OneListLaw = (rules : Rules) (count : ℕ) (a b : Slots) → AreTold rules → AreAll rules count a → AreAll rules count b → a ≡ b
+OneListLaw = (rules : Rules) (count : ℕ) (a b : Slots) → AreAnswered rules → AreAll rules count a → AreAll rules count b → a ≡ b

@@ -8,7 +8,7 @@ pub fn order_law()
     ensures one_number { OneNumberLaw }
 {}
 
-/// A law, which does nothing when it is called: rules that are told of all values find one list of values.
+/// A law, which does nothing when it is called: rules that are answered for all values find one list of values.
 pub fn values_law()
     ensures { OneListLaw }
 {}

@@ -5,7 +5,7 @@ use Rattle.mo_parser.specs.declared.tree.Tree.{Tree}
 use Rattle.mo_parser.specs.declared.syntax.SyntaxCode.{SyntaxCode}
 use Rattle.mo_parser.specs.declared.syntax.SyntaxCode.TheVariants as code
 use Rattle.mo_parser.specs.grammar.Kinds.{is_end, is_foreign}
-use Rattle.mo_parser.specs.grammar.Faults.{FaultLaw, IsFault, IsRefused, Spells, code_by}
+use Rattle.mo_parser.specs.grammar.Faults.{FaultLaw, IsFault, IsRefused, Derives, code_by}
 use Rattle.mo_parser.specs.grammar.Places.{Front, Swap, head, here, next, start, there}
 use Rattle.mo_parser.specs.reading.Outcomes.{Outcome, Deep, Read, Stuck}
 use Rattle.mo_parser.specs.reading.Classes.{file}
@@ -69,10 +69,10 @@ module _ (text : List ℕ) (n : ℕ) (tokens : List Token) where
   read_deep : (rest : List Token) → IsFault text n tokens code.S2 rest → file text n tokens ≡ Deep rest
   read_deep rest f = (fits_file text {n = n}).deep_complete tokens rest f.deep
 
-  spelled_not_refused : (rest : List Token) (t : Tree) → Spells text n t tokens → IsRefused text n tokens rest → ⊥
+  spelled_not_refused : (rest : List Token) (t : Tree) → Derives text n t tokens → IsRefused text n tokens rest → ⊥
   spelled_not_refused rest t x i = i.here n t tokens rest (tail_swap tokens rest (refused_tail rest i)) x
 
-  never_both : (rest : List Token) (t : Tree) (c : SyntaxCode) → Spells text n t tokens → IsFault text n tokens c rest → ⊥
+  never_both : (rest : List Token) (t : Tree) (c : SyntaxCode) → Derives text n t tokens → IsFault text n tokens c rest → ⊥
   never_both rest t code.S1 x f = spelled_not_refused rest t x f.0
   never_both rest t code.S2 x f =
       let read : file text n tokens ≡ Read t x.0 = spelled_read text n n t tokens x.0 (omega arith) x.1 x.2 in let deep : file text n tokens ≡ Deep rest = read_deep rest f in cc
@@ -96,7 +96,7 @@ module _ (text : List ℕ) (n : ℕ) (tokens : List Token) where
   one_fault rest other code.S3 code.S3 f g = (refl, one_place rest other f.0 g.0)
 
   abbrev Answered : Type 0
-  Answered = ((t : Tree) × Spells text n t tokens) ⊎ ((c : SyntaxCode) × (rest : List Token) × IsFault text n tokens c rest)
+  Answered = ((t : Tree) × Derives text n t tokens) ⊎ ((c : SyntaxCode) × (rest : List Token) × IsFault text n tokens c rest)
 
   answered : (o : Outcome Tree) → file text n tokens ≡ o → Answered
   answered (Deep r) e = inr (code.S2, r, too_deep text n tokens r e)

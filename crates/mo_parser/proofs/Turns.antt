@@ -4,7 +4,7 @@ use Rattle.mo_lexer.specs.declared.token.Token.{Token}
 use Rattle.mo_parser.specs.declared.grammar.tokens.Halt.{Halt}
 use Rattle.mo_parser.specs.declared.grammar.tokens.Halt.TheVariants as halt
 use Rattle.mo_parser.specs.grammar.Places.{head}
-use Rattle.mo_parser.specs.reading.Outcomes.{Outcome, Parser, Read, Reads, and_then, turns}
+use Rattle.mo_parser.specs.reading.Outcomes.{Outcome, Parser, Read, ReadsTokens, and_then, turns}
 
 module _ {A : Type 0} {e : Outcome A} (test : Token → Bool) (step : A → Parser A) (n at : ℕ) where
   one_more : (x : A) (ts : List Token) → at < n → e ≡ turns test step (n - at) x ts → test (head ts) ≡ true → e ≡ and_then (step x ts) (turns test step (n - (at + 1)))
@@ -17,10 +17,10 @@ module _ {A : Type 0} {e : Outcome A} (test : Token → Bool) (step : A → Pars
   turned x y ts rest below is goes one = one_more x ts below is goes ∙ ap (λ (o : Outcome A). and_then o (turns test step (n - (at + 1)))) one
 
   -- a turn that read nothing
-  pub failed : (x : A) (ts rest : List Token) (r : Result A Halt) (h : Halt) → at < n → e ≡ turns test step (n - at) x ts → test (head ts) ≡ true → Reads (step x ts) (Err h) rest → r ≡ Err h → Reads e r rest
-  failed x ts rest r h below is goes none same = let Q : Result A Halt → Type 0 = λ r. Reads e r rest in subst Q (sym same) (by h none)
+  pub failed : (x : A) (ts rest : List Token) (r : Result A Halt) (h : Halt) → at < n → e ≡ turns test step (n - at) x ts → test (head ts) ≡ true → ReadsTokens (step x ts) (Err h) rest → r ≡ Err h → ReadsTokens e r rest
+  failed x ts rest r h below is goes none same = let Q : Result A Halt → Type 0 = λ r. ReadsTokens e r rest in subst Q (sym same) (by h none)
     where
-      by : (h : Halt) → Reads (step x ts) (Err h) rest → Reads e (Err h) rest
+      by : (h : Halt) → ReadsTokens (step x ts) (Err h) rest → ReadsTokens e (Err h) rest
       by halt.NoMemory none = tt
       by halt.Stuck none = one_more x ts below is goes ∙ ap (λ (o : Outcome A). and_then o (turns test step (n - (at + 1)))) none
       by halt.Deep none = one_more x ts below is goes ∙ ap (λ (o : Outcome A). and_then o (turns test step (n - (at + 1)))) none
@@ -39,11 +39,11 @@ pub deeper : {X : Type 0} (f : ℕ → X) (n : ℕ) → 0 < n → f n ≡ f (suc
 deeper f n some = let e : n ≡ suc (n - 1) = omega arith in ap f e
 
 -- what follows a part that was read
-pub then_reads : {A B : Type 0} (o : Outcome A) (f : A → Parser B) (x : A) (at rest : List Token) (r : Result B Halt) → o ≡ Read x at → Reads (f x at) r rest → Reads (and_then o f) r rest
+pub then_reads : {A B : Type 0} (o : Outcome A) (f : A → Parser B) (x : A) (at rest : List Token) (r : Result B Halt) → o ≡ Read x at → ReadsTokens (f x at) r rest → ReadsTokens (and_then o f) r rest
 then_reads o f x at rest r is next = rw is next
 
 -- a value that was made where memory did not fail
-pub made_reads : {A : Type 0} (x : A) (rest : List Token) (r : Result A Halt) → IfOk r (λ y. y ≡ x) → IfErr r (λ h. h ≡ halt.NoMemory) → Reads (Read x rest) r rest
+pub made_reads : {A : Type 0} (x : A) (rest : List Token) (r : Result A Halt) → IfOk r (λ y. y ≡ x) → IfErr r (λ h. h ≡ halt.NoMemory) → ReadsTokens (Read x rest) r rest
 made_reads x rest (Ok y) is refused = ap (λ z. Read z rest) (sym is)
 made_reads x rest (Err halt.NoMemory) is refused = tt
 made_reads x rest (Err halt.Stuck) is refused = cc

@@ -10,8 +10,8 @@ use Rattle.flat_instances.specs.declared.item.Item.TheVariants.{Declared, Own}
 use Rattle.flat_instances.specs.Instances.{Variable, variables}
 use Rattle.flat_instances.specs.Kept.{seen, seen_variable}
 use Rattle.parameter_values.specs.Values.{is_parameter}
-use Rattle.parameter_values.specs.private.Slots.{names_of, parameters}
-use Rattle.model_values.specs.private.Parts.{names_in}
+use Rattle.parameter_values.specs.Slots.{names_of, parameters}
+use Rattle.model_values.specs.private.ItemNeeds.{names_in}
 
 module _ (text : List ℕ) (classes : List ClassDef) where
   one_more : (v : Variable) (b : Bool) (rest : List Ident) (others : List Variable) → rest ≡ names_of others

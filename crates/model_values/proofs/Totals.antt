@@ -7,9 +7,9 @@ use Rattle.flat_instances.specs.declared.item.Item.TheVariants.{Declared, Own}
 use Rattle.flat_instances.specs.Instances.{Variable, variables}
 use Rattle.flat_instances.specs.Kept.{seen, seen_variable}
 use Rattle.parameter_values.specs.Values.{is_parameter}
-use Rattle.parameter_values.specs.private.Givens.{Valued, valued_of}
+use Rattle.parameter_values.specs.Givens.{Valued, valued_of}
 use Rattle.value_rules.specs.Needs.{needs_of}
-use Rattle.model_values.specs.private.Parts.{needs_in, parameters_in}
+use Rattle.model_values.specs.private.ItemNeeds.{needs_in, parameters_in}
 
 module _ (text : List ℕ) (classes : List ClassDef) where
   all_needs : (items : List Item) → flat_map (needs_in text classes) items ≡ map (needs_of text classes) (variables text classes (map (seen text classes) items))

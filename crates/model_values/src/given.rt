@@ -2,7 +2,7 @@
 ghost use Rattle.std.specs.Prelude.{◌≡◌, IfOk, option_map, take};
 ghost use Rattle.flat_instances.specs.Kept as kept;
 ghost use Rattle.parameter_values.specs.Values as values;
-ghost use Rattle.parameter_values.specs.private.Givens as givens;
+ghost use Rattle.parameter_values.specs.Givens as givens;
 ghost use Rattle.value_rules.specs.Needs as wanted;
 
 use class_scopes::File;

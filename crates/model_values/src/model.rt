@@ -2,10 +2,10 @@
 ghost use Rattle.std.specs.Prelude.{◌≡◌, ◌++◌, IfOk, OnOk, map};
 ghost use Rattle.flat_instances.specs.Instances as instances;
 ghost use Rattle.flat_instances.specs.Kept as kept;
-ghost use Rattle.parameter_values.specs.private.Givens as givens;
-ghost use Rattle.parameter_values.specs.private.Slots as slots;
+ghost use Rattle.parameter_values.specs.Givens as givens;
+ghost use Rattle.parameter_values.specs.Slots as slots;
 ghost use Rattle.value_rules.specs.Needs as wanted;
-ghost use Rattle.model_values.specs.private.Parts as parts;
+ghost use Rattle.model_values.specs.private.ItemNeeds as parts;
 
 use crate::given::{is_fixed, needs_of, parameter_of};
 use class_scopes::File;

@@ -4,8 +4,8 @@ ghost use Rattle.mo_parser.specs.declared.tree.ClassDef.{ClassDef as Class};
 ghost use Rattle.class_scopes.specs.Tables.{IsTableOf};
 ghost use Rattle.flat_instances.specs.Instances as instances;
 ghost use Rattle.flat_instances.specs.Kept as kept;
-ghost use Rattle.parameter_values.specs.private.Slots as slots;
-ghost use Rattle.model_values.specs.private.Parts as parts;
+ghost use Rattle.parameter_values.specs.Slots as slots;
+ghost use Rattle.model_values.specs.private.ItemNeeds as parts;
 
 use crate::given::is_fixed;
 use class_scopes::Table;

@@ -3,7 +3,7 @@ ghost use Rattle.std.specs.Prelude.{◌≡◌, IfOk, map};
 ghost use Rattle.flat_instances.specs.Instances as instances;
 ghost use Rattle.flat_instances.specs.Kept as kept;
 ghost use Rattle.parameter_values.specs.Values.{AreValues};
-ghost use Rattle.parameter_values.specs.private.Slots as slots;
+ghost use Rattle.parameter_values.specs.Slots as slots;
 ghost use Rattle.value_rules.specs.Faults as faults;
 
 use crate::model::{needs, parameters};

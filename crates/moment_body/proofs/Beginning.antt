@@ -36,9 +36,6 @@ module _ (stages : Stages) (stands : Standing) (model : ClockedModel) (sheet : S
   }
 
 module _ (stages : Stages) (stands : Standing) (model : ClockedModel) (sheet : Sheet) (taken : Planned) (at : Moment) (there : IsThere (IsKeptBy stages stands model sheet) taken at) (old : Values) (old_is : old ≡ sheet.now.items) where
-  pub can_fill : CanFill model at old
-  can_fill = let (s, A, n, kept, plan, here, alone) = there in (s, n, model_at stages stands model sheet s A n kept at here old old_is)
-
   pub can_take_pure : (inputs : Values) → length inputs ≡ length old → FillsInputs model at old inputs → CanTakePure stages stands model inputs
   can_take_pure inputs long fills =
       let (s, A, n, kept, plan, here, alone) = there in

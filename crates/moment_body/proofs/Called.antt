@@ -3,7 +3,7 @@ use Rattle.std.proofs.Common.{◌≡◌, ap, ◌∙◌, sym, subst, ℕ, Bool, L
 use Rattle.flat_model.specs.declared.clock.Moment.{Moment}
 use Rattle.flat_model.specs.declared.expression.Expr.{Expr}
 use Rattle.flat_model.specs.declared.fault.Fault.{Fault}
-use Rattle.flat_model.specs.Answers.{value_in, truth_in, views_of}
+use Rattle.flat_model.specs.Values.{value_in, truth_in, views_of}
 use Rattle.flat_model.specs.Meaning.{value_of}
 use Rattle.tick_plan.specs.Plans.{Planned, ticks_in_plan}
 use Rattle.first_failure.specs.declared.least.EquationFailing.{EquationFailing}

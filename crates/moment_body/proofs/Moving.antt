@@ -4,7 +4,7 @@ use Rattle.sync_values.specs.declared.value.Value.{Value}
 use Rattle.flat_model.specs.declared.clock.Moment.{Moment}
 use Rattle.flat_model.specs.declared.expression.Expr.{Expr}
 use Rattle.flat_model.specs.declared.fault.Fault.{Fault}
-use Rattle.flat_model.specs.Answers.{value_in, truth_in, views_of}
+use Rattle.flat_model.specs.Values.{value_in, truth_in, views_of}
 use Rattle.flat_model.specs.Assignment.{Assignment}
 use Rattle.flat_model.specs.Given.{Row, with_row}
 use Rattle.flat_model.specs.Meaning.{value_of}
@@ -24,7 +24,7 @@ use Rattle.moment_moves.proofs.Ticking.{ticks_told}
 use Rattle.run_ahead.specs.Ahead.{IsAloneBefore}
 use Rattle.run_moments.specs.Moving.{IsPlanTaken, HasMoved}
 use Rattle.site_risings.specs.declared.answers.SiteFailing.{SiteFailing}
-use Rattle.site_risings.specs.Answers.{TellsFirst}
+use Rattle.site_risings.specs.SiteFailures.{TellsFirst}
 use Rattle.site_risings.specs.Risings.{NotedTo}
 use Rattle.moment_body.specs.declared.model.ClockedModel.{ClockedModel}
 use Rattle.moment_body.specs.declared.sheet.Sheet.{Sheet}

@@ -8,7 +8,7 @@ use Rattle.sync_values.specs.declared.value.Value.TheVariants as value
 use Rattle.flat_model.specs.declared.clock.Moment.{Moment}
 use Rattle.flat_model.specs.declared.clock.Moment.TheVariants.{At}
 use Rattle.flat_model.specs.declared.expression.Expr.{Expr}
-use Rattle.flat_model.specs.Answers.{value_in, truth_in, views_of}
+use Rattle.flat_model.specs.Values.{value_in, truth_in, views_of}
 use Rattle.flat_model.specs.Assignment.{Assignment}
 use Rattle.flat_model.specs.Given.{with_row}
 use Rattle.flat_model.specs.Meaning.{value_of}
@@ -22,7 +22,7 @@ use Rattle.moment_moves.specs.Moments.{IsFirstSite}
 use Rattle.moment_moves.proofs.Ending.{risings_same}
 use Rattle.run_moments.specs.Moving.{IsPlanTaken, IsPlanAt}
 use Rattle.site_risings.specs.declared.answers.SiteFailing.{SiteFailing}
-use Rattle.site_risings.specs.Answers.{TellsFirst}
+use Rattle.site_risings.specs.SiteFailures.{TellsFirst}
 use Rattle.site_risings.specs.Laws.{AreAnswers}
 use Rattle.site_risings.specs.Risings.{is_high, is_low, answer_of, was_low, CanNote, NotedTo}
 use Rattle.site_risings.proofs.Answering.{answers_are, fails_as, fails_over}

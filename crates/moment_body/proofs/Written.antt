@@ -1,7 +1,7 @@
 -- How a sheet is written on at a moment.
 use Rattle.std.proofs.Common.{◌≡◌, ap, ◌∙◌, ℕ, suc, Bool, List, ◌++◌, length, map, take, drop, arith}
 use Rattle.std.proofs.lemmas.List.{length-map, take-append-le, take_all}
-use Rattle.flat_model.specs.Answers.{value_in}
+use Rattle.flat_model.specs.Values.{value_in}
 use Rattle.flat_model.specs.Assignment.{Assignment}
 use Rattle.flat_model.specs.Setting.{Setting, site_answer, is_false}
 use Rattle.site_risings.specs.Risings.{was_low}

@@ -2,7 +2,7 @@
 use Rattle.std.specs.Prelude.{◌≡◌, ℕ, suc, Bool, List, ◌∷◌, length, Option, Some, slice_get}
 use Rattle.sync_values.specs.declared.value.Value.{Value}
 use Rattle.flat_model.specs.declared.clock.Moment.{Moment}
-use Rattle.flat_model.specs.Answers.{value_in, truth_in}
+use Rattle.flat_model.specs.Values.{value_in, truth_in}
 use Rattle.flat_model.specs.Assignment.{Assignment}
 use Rattle.flat_model.specs.Given.{Row, with_row}
 use Rattle.flat_model.specs.Meets.{MeetsBefore}

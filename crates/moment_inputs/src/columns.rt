@@ -1,6 +1,6 @@
 //! The names that are columns, and the row of their values.
 ghost use Rattle.std.specs.Prelude.{◌≡◌, ◌≤◌, IfOk, length, map};
-ghost use Rattle.flat_model.specs.Answers.{value_in};
+ghost use Rattle.flat_model.specs.Values.{value_in};
 ghost use Rattle.flat_model.specs.Models.{size_limit};
 ghost use Rattle.flat_model.specs.Trace.{columns_of, is_column};
 

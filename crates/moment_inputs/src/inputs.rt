@@ -1,6 +1,6 @@
 //! The values of the inputs at a moment.
 ghost use Rattle.std.specs.Prelude.{◌≡◌, ◌==◌, ◌+◌, ◌*◌, ◌<◌, ℕ, Some, None, length, position, replicate, slice_get, slice_set};
-ghost use Rattle.flat_model.specs.Answers.{value_in};
+ghost use Rattle.flat_model.specs.Values.{value_in};
 ghost use Rattle.flat_model.specs.Moments.{cell_of, row_of};
 ghost use Rattle.moment_inputs.specs.Filling.{IsTableOfNames, HoldInputs};
 

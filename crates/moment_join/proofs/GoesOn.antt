@@ -15,7 +15,7 @@ use Rattle.flat_model.specs.Given.{Row, with_row, CanUse, Solves, IsOnlySolution
 use Rattle.flat_model.specs.Meaning.{seen_by}
 use Rattle.flat_model.specs.Moments.{moment_at}
 use Rattle.flat_model.specs.Occurrences.{bare_count}
-use Rattle.flat_model.specs.Parts.{parts_beside, kind_of}
+use Rattle.flat_model.specs.Ways.{parts_beside, kind_of}
 use Rattle.flat_model.specs.Setting.{Setting, class_of_equation, views_at, site_answer}
 use Rattle.flat_model.specs.Uses.{Use}
 use Rattle.flat_model.proofs.Above.{Above, IsBelow}

@@ -20,7 +20,7 @@ use Rattle.flat_model.specs.Given.{Row, with_row, HasReadIn, HasReadsBut, CanUse
 use Rattle.flat_model.specs.Meaning.{seen_by, value_of}
 use Rattle.flat_model.specs.Moments.{moment_at, table_value}
 use Rattle.flat_model.specs.Occurrences.{bare_count}
-use Rattle.flat_model.specs.Parts.{parts_beside, kind_of}
+use Rattle.flat_model.specs.Ways.{parts_beside, kind_of}
 use Rattle.flat_model.specs.Runnable.{IsCondition}
 use Rattle.flat_model.specs.Setting.{Setting, class_of_equation, class_ticks, views_at, unclocked_views, answer_in, site_answer}
 use Rattle.flat_model.specs.Tables.{IsInput}

@@ -4,7 +4,7 @@ use Rattle.std.specs.Prelude.{option_map}
 use Rattle.std.proofs.lemmas.Bool.{cases_lt}
 use Rattle.std.proofs.lemmas.Option.{none-some, same_Some, slice_get_within, slice_get_past}
 use Rattle.sync_values.specs.declared.value.Value.{Value}
-use Rattle.flat_model.specs.Answers.{value_in}
+use Rattle.flat_model.specs.Values.{value_in}
 use Rattle.flat_model.specs.Given.{Row}
 use Rattle.flat_model.specs.Setting.{Setting, flattened}
 use Rattle.tree_step.specs.declared.cell.Cell.{Cell}
@@ -12,12 +12,12 @@ use Rattle.tree_step.specs.declared.frame.ClockNow.{ClockNow}
 use Rattle.tree_step.specs.declared.taking.Entry.{Entry}
 use Rattle.tree_step.specs.Cells.{cell_in}
 use Rattle.tree_step.specs.Takes.{IsSameCell}
-use Rattle.partition_step.specs.private.Writing.{IsWritten}
+use Rattle.partition_step.specs.Writing.{IsWritten}
 use Rattle.partition_step.proofs.Lists.{some_at}
 use Rattle.partition_step.proofs.Placing.{IsThere, there}
 use Rattle.moment_steps.specs.declared.taking.UnclockedReads.{UnclockedReads}
 use Rattle.moment_steps.specs.Settled.{IsSettled}
-use Rattle.moment_steps.specs.private.Opening.{value_from, value_by}
+use Rattle.moment_steps.specs.Opening.{value_from, value_by}
 
 still_there : (old new : Option Cell) (cell : Cell) → old ≡ Some cell → IsSameCell old new → (other : Cell) × (new ≡ Some other)
 still_there None new cell is same = absurd (none-some cell is)

@@ -7,7 +7,7 @@ use Rattle.sync_values.specs.declared.value.Value.{Value}
 use Rattle.flat_model.specs.declared.model.NameKind.{NameKind}
 use Rattle.flat_model.specs.declared.model.NameKind.TheVariants as kind
 use Rattle.flat_model.specs.declared.table.Left.{Left}
-use Rattle.flat_model.specs.Answers.{value_in}
+use Rattle.flat_model.specs.Values.{value_in}
 use Rattle.flat_model.specs.Assignment.{Assignment, previous_value}
 use Rattle.flat_model.specs.Given.{Row, with_row}
 use Rattle.flat_model.specs.Meets.{HasValueAtTicks, MeetsAt, MeetsBefore}
@@ -20,13 +20,13 @@ use Rattle.fork_steps.specs.declared.slot.Slot.{Slot}
 use Rattle.tree_step.specs.declared.cell.Cell.{Cell}
 use Rattle.tree_step.specs.declared.frame.ClockNow.{ClockNow}
 use Rattle.tree_step.specs.declared.taking.Entry.{Entry}
-use Rattle.partition_step.specs.private.Writing.{IsWritten}
+use Rattle.partition_step.specs.Writing.{IsWritten}
 use Rattle.partition_step.proofs.Lists.{some_at}
 use Rattle.moment_body.specs.Stepping.{Values}
 use Rattle.moment_steps.specs.declared.piece.Piece.{Piece}
 use Rattle.moment_steps.specs.declared.taking.UnclockedReads.{UnclockedReads}
 use Rattle.moment_steps.specs.Standing.{IsLeftAt, StandsBefore, HasEnded}
-use Rattle.moment_steps.specs.private.Keeping.{last_by, now_by}
+use Rattle.moment_steps.specs.Keeping.{last_by, now_by}
 use Rattle.moment_steps.proofs.Starting.{valued_within}
 
 rests_at : (k : NameKind) (ticks : Bool) (o : Option Value) → ticks ≡ false → HasValueAtTicks k ticks o → o ≡ None

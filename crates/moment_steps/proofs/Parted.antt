@@ -8,7 +8,7 @@ use Rattle.sync_values.specs.declared.value.Value.{Value}
 use Rattle.sync_values.specs.declared.value.Fail.{Fail}
 use Rattle.flat_model.specs.declared.clock.Moment.{Moment}
 use Rattle.flat_model.specs.declared.table.Left.{Left}
-use Rattle.flat_model.specs.Answers.{value_in}
+use Rattle.flat_model.specs.Values.{value_in}
 use Rattle.flat_model.specs.Assignment.{Assignment}
 use Rattle.flat_model.specs.Faults.{EquationFails}
 use Rattle.flat_model.specs.Given.{Row, with_row}
@@ -39,8 +39,8 @@ use Rattle.partition_step.specs.declared.part.ClassKept.{ClassKept}
 use Rattle.partition_step.specs.declared.part.Outcome.{Outcome}
 use Rattle.partition_step.specs.declared.part.Outcome.TheVariants.{Stepped, Failed}
 use Rattle.partition_step.specs.Parts.{IsPartOf, StandsFor}
-use Rattle.partition_step.specs.Steps.{Telling, GoesOnWith, HasStepped, failing_in}
-use Rattle.partition_step.specs.private.Writing.{IsWritten}
+use Rattle.partition_step.specs.Steps.{Showing, GoesOnWith, HasStepped, failing_in}
+use Rattle.partition_step.specs.Writing.{IsWritten}
 use Rattle.partition_step.proofs.Lists.{map_at, at_map, some_at}
 use Rattle.partition_step.proofs.Placing.{there, at_among, own_reached, entry_of_cell}
 use Rattle.partition_step.proofs.Resting.{rests}
@@ -52,7 +52,7 @@ use Rattle.moment_steps.specs.declared.taking.UnclockedReads.{UnclockedReads}
 use Rattle.moment_steps.specs.Gathered.{told_in, partition_by, partition_in, value_from, value_of_slot, gathered, gathered_at}
 use Rattle.moment_steps.specs.Settled.{own_uses, stages_in, IsSlotOf}
 use Rattle.moment_steps.specs.Stepped.{IsPieceStepped, HasRested, HasCounted, AreSteppedAt}
-use Rattle.moment_steps.proofs.Parts.{Based-on, telling, of, waits, own, piece_found, ahead, after, step_start}
+use Rattle.moment_steps.proofs.Parts.{Based-on, showing, of, waits, own, piece_found, ahead, after, step_start}
 use Rattle.moment_steps.proofs.Rows.{reached_first, reached_second, base_clocked, piece_clear}
 use Rattle.moment_steps.proofs.Starting.{valued_within}
 
@@ -89,12 +89,12 @@ outcome_is (Failed failing) none = absurd (none-some failing (sym none))
 module _ (pure waiting : List Entry) (noted : UnclockedReads) (always : List ClockNow) (numbers : List ℕ) (cells : List Cell) (ticked : List Bool) (places : List ℕ) (slots : List (Slot Piece)) (left : Left)
     (model_now : ClockedModel) (at : Moment) (ticks : ℕ → Bool) (answers : List (Option Bool)) (now : Values)
     (s : Setting) (uses : List Use) (A : Assignment) (n : ℕ) (between : IsBetween (stages_in pure waiting slots) (Based-on pure waiting noted always numbers cells ticked places slots left) model_now at ticks answers now s uses A n)
-    (new : List (Slot Piece)) (stepped : AreSteppedAt (telling pure waiting noted always numbers cells ticked places slots left model_now at ticks answers now) model_now.clocking.partitions slots new) where
+    (new : List (Slot Piece)) (stepped : AreSteppedAt (showing pure waiting noted always numbers cells ticked places slots left model_now at ticks answers now) model_now.clocking.partitions slots new) where
   abbrev stages : Stages
   stages = stages_in pure waiting slots
 
-  abbrev told_now : Telling
-  told_now = telling pure waiting noted always numbers cells ticked places slots left model_now at ticks answers now
+  abbrev told_now : Showing
+  told_now = showing pure waiting noted always numbers cells ticked places slots left model_now at ticks answers now
 
   abbrev base : Row
   base = value_in now

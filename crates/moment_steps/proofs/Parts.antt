@@ -11,7 +11,7 @@ use Rattle.flat_model.specs.declared.equation.Equation.{Equation}
 use Rattle.flat_model.specs.declared.equation.Equation.TheVariants.{Valued, Clocks}
 use Rattle.flat_model.specs.declared.expression.Expr.{Expr}
 use Rattle.flat_model.specs.declared.table.Left.{Left}
-use Rattle.flat_model.specs.Answers.{value_in, truth_in}
+use Rattle.flat_model.specs.Values.{value_in, truth_in}
 use Rattle.flat_model.specs.Asks.{AsksFor, OfNow, OfLast}
 use Rattle.flat_model.specs.Assignment.{Assignment}
 use Rattle.flat_model.specs.Faults.{EquationFails}
@@ -46,7 +46,7 @@ use Rattle.partition_step.specs.declared.part.ClassKept.{ClassKept}
 use Rattle.partition_step.specs.declared.part.Outcome.{Outcome}
 use Rattle.partition_step.specs.declared.part.Outcome.TheVariants.{Stepped, Failed}
 use Rattle.partition_step.specs.Parts.{IsPartOf, StandsFor}
-use Rattle.partition_step.specs.Steps.{Telling, IsSampleTold, AreSamplesTold, IsTold, IsStepStart, GoesOnWith, HasStepped, StepsFrom, CanStep, failing_in}
+use Rattle.partition_step.specs.Steps.{Showing, IsSampleShown, AreSamplesShown, IsShown, IsStepStart, GoesOnWith, HasStepped, StepsFrom, CanStep, failing_in}
 use Rattle.partition_step.proofs.Lists.{map_at, at_map, some_at}
 use Rattle.partition_step.proofs.Resting.{rests}
 use Rattle.moment_body.specs.declared.model.ClockedModel.{ClockedModel}
@@ -80,8 +80,8 @@ module _ (pure waiting : List Entry) (noted : UnclockedReads) (always : List Clo
   Based-on s A n row = StandsBefore s A n pure waiting noted always numbers cells ticked places slots left
 
   module _ (model_now : ClockedModel) (at : Moment) (ticks : ℕ → Bool) (answers : List (Option Bool)) (now : Values) where
-    abbrev pub telling : Telling
-    telling = record { equations = model_now.flat.equations; places = places; moment = at; ticks = ticks; answers = answers; left = left }
+    abbrev pub showing : Showing
+    showing = record { equations = model_now.flat.equations; places = places; moment = at; ticks = ticks; answers = answers; left = left }
 
     module _ (s : Setting) (uses : List Use) (A : Assignment) (n : ℕ) (between : IsBetween stages Based-on model_now at ticks answers now s uses A n) where
       abbrev pub base : Row
@@ -97,7 +97,7 @@ module _ (pure waiting : List Entry) (noted : UnclockedReads) (always : List Clo
           let (e, among, is) = entry_of_use waiting entry (contains_member entry stages.waiting has) in
           ap (λ u. class_of_equation s u.equation) (sym is) ∙ (between.based.settled.waiting_plain e among).unclocked
 
-      samples : (equation : Equation) (i : ℕ) → slice_get s.model.equations i ≡ Some equation → AreSamplesTold s A n left equation
+      samples : (equation : Equation) (i : ℕ) → slice_get s.model.equations i ≡ Some equation → AreSamplesShown s A n left equation
       samples (Clocks left_side right clause) i found = tt
       samples (Valued left_side right clause) i found =
           let typed : IsTyped (types_in s.model.names) (Valued left_side right clause) = all_at (IsTyped (types_in s.model.names)) s.model.equations i (Valued left_side right clause) between.moment.staged.are.ordered.runs.model.typed.equations found in
@@ -126,8 +126,8 @@ module _ (pure waiting : List Entry) (noted : UnclockedReads) (always : List Clo
         abbrev pub after : List Use
         after = back s uses stages.pure stages.pieces stages.waiting between.moment.staged.are between.moment.staged.reach of waits i own piece_found
 
-        told : IsTold s own A n base telling
-        told = record {
+        shown : IsShown s own A n base showing
+        shown = record {
           model = ap (λ flat. flat.equations) between.model_is.flat;
           here = between.moment.here;
           ticks = between.ticks_are;
@@ -135,7 +135,7 @@ module _ (pure waiting : List Entry) (noted : UnclockedReads) (always : List Clo
           samples = λ entry equation has equation_found. samples equation entry.equation equation_found;
         }
 
-        pub step_start : IsStepStart s uses ahead own after i A n base telling slot.piece.part
+        pub step_start : IsStepStart s uses ahead own after i A n base showing slot.piece.part
         step_start = record {
           piece = is_piece s uses stages.pure stages.pieces stages.waiting between.moment.staged.are between.moment.staged.reach of waits i own piece_found;
           part_of = (between.based.slots_are i slot found).part_of;
@@ -144,9 +144,9 @@ module _ (pure waiting : List Entry) (noted : UnclockedReads) (always : List Clo
           typed = base_typed s uses stages.pure stages.pieces stages.waiting between.moment.staged.are A n at between.moment.here between.inputs between.are base between.taken;
           sound = base_sound s uses stages.pure stages.pieces stages.waiting between.moment.staged.are A n at between.moment.here between.inputs between.are base between.taken;
           clear = piece_clear s uses stages.pure stages.pieces stages.waiting between.moment.staged.are A n at between.moment.here between.inputs between.are base between.taken i own piece_found;
-          told = told;
+          shown = shown;
           measured = between.based.settled.measured;
         }
 
-        pub can_step : CanStep telling slot.piece.part
+        pub can_step : CanStep showing slot.piece.part
         can_step = record { s = s; uses = uses; before = ahead; own = own; after = after; partition = i; S = A; m = n; base = base; start = step_start }

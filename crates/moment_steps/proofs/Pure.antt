@@ -6,7 +6,7 @@ use Rattle.sync_values.specs.declared.value.Value.{Value}
 use Rattle.flat_model.specs.declared.clock.Clock.TheVariants.{Event}
 use Rattle.flat_model.specs.declared.equation.Equation.{Equation}
 use Rattle.flat_model.specs.declared.table.Left.{Left}
-use Rattle.flat_model.specs.Answers.{value_in}
+use Rattle.flat_model.specs.Values.{value_in}
 use Rattle.flat_model.specs.Assignment.{Assignment}
 use Rattle.flat_model.specs.Given.{Row, with_row}
 use Rattle.flat_model.specs.Setting.{Setting, flattened, clock_of}
@@ -33,12 +33,12 @@ use Rattle.moment_body.specs.declared.model.ClockedModel.{ClockedModel}
 use Rattle.moment_body.specs.Stages.{Stages}
 use Rattle.moment_body.specs.Stepping.{Values, Standing, Based, IsBefore, CanTakePure, HasTakenPure, TakesPure}
 use Rattle.side_theory.specs.Typed.{valued_before}
-use Rattle.partition_step.specs.private.Writing.{IsWritten}
+use Rattle.partition_step.specs.Writing.{IsWritten}
 use Rattle.moment_steps.specs.declared.piece.Piece.{Piece}
 use Rattle.moment_steps.specs.declared.taking.UnclockedReads.{UnclockedReads}
 use Rattle.moment_steps.specs.Settled.{own_uses, stages_in}
 use Rattle.moment_steps.specs.Standing.{StandsBefore}
-use Rattle.moment_steps.specs.private.Opening.{opened_by, value_by}
+use Rattle.moment_steps.specs.Opening.{opened_by, value_by}
 use Rattle.moment_steps.proofs.Copied.{copied}
 use Rattle.moment_steps.proofs.Rows.{reached_first, inputs_typed, inputs_sound, clear_at_first}
 use Rattle.moment_steps.proofs.Starting.{valued_within, OpenCell, open_cell, starts, were_met, LastSeen}

@@ -9,7 +9,7 @@ use Rattle.sync_values.specs.declared.value.Fail.{Fail}
 use Rattle.flat_model.specs.declared.clock.Moment.{Moment}
 use Rattle.flat_model.specs.declared.equation.Equation.{Equation}
 use Rattle.flat_model.specs.declared.table.Left.{Left}
-use Rattle.flat_model.specs.Answers.{value_in, truth_in}
+use Rattle.flat_model.specs.Values.{value_in, truth_in}
 use Rattle.flat_model.specs.Assignment.{Assignment}
 use Rattle.flat_model.specs.Faults.{EquationFails}
 use Rattle.flat_model.specs.Given.{Row, with_row}
@@ -49,8 +49,8 @@ use Rattle.tree_step.specs.Starts.{uses_of, IsAmong, StandsAs, AreSitesApart, Is
 use Rattle.tree_step.specs.Takes.{TakesUses, HasTaken}
 use Rattle.side_theory.specs.Typed.{valued_at, valued_before}
 use Rattle.partition_step.specs.Parts.{IsPartOf, StandsFor}
-use Rattle.partition_step.specs.Steps.{Telling, GoesOnWith, CanStep}
-use Rattle.partition_step.specs.private.Writing.{IsWritten}
+use Rattle.partition_step.specs.Steps.{Showing, GoesOnWith, CanStep}
+use Rattle.partition_step.specs.Writing.{IsWritten}
 use Rattle.partition_step.proofs.Lists.{lists_same, none_past, at_map, some_at}
 use Rattle.moment_body.specs.declared.model.ClockedModel.{ClockedModel}
 use Rattle.moment_body.specs.Stages.{Stages}
@@ -62,10 +62,10 @@ use Rattle.moment_steps.specs.Settled.{own_uses, stages_in, IsSlotOf}
 use Rattle.moment_steps.specs.Standing.{StandsBefore, HasEnded}
 use Rattle.moment_steps.specs.Stepped.{HasCounted, HasRested, AreSteppedAt}
 use Rattle.moment_steps.specs.Ticked.{row_ticks}
-use Rattle.moment_steps.specs.private.Opening.{opened_by, standing, value_by}
+use Rattle.moment_steps.specs.Opening.{opened_by, standing, value_by}
 use Rattle.moment_steps.proofs.Copied.{copied}
 use Rattle.moment_steps.proofs.Parted.{SlotRow, slot_row, owns, owns_is, alone, told_at, no_more, beside}
-use Rattle.moment_steps.proofs.Parts.{Based-on, telling, answer_flat, of, can_step}
+use Rattle.moment_steps.proofs.Parts.{Based-on, showing, answer_flat, of, can_step}
 use Rattle.moment_steps.proofs.Pure.{outside}
 use Rattle.moment_steps.proofs.Rows.{reached_first, reached_second, member_front, member_back, row_typed, row_sound, row_clear, ordered_behind, same_site, same_ticks, site_not_waiting}
 use Rattle.moment_steps.proofs.Starting.{valued_within, OpenCell, open_cell, starts, were_met, LastSeen, stands_as}
@@ -78,8 +78,8 @@ module _ (pure waiting : List Entry) (noted : UnclockedReads) (always : List Clo
   abbrev Before : Based
   Before = Based-on pure waiting noted always numbers cells ticked places slots left
 
-  abbrev pub telling_now : Telling
-  telling_now = telling pure waiting noted always numbers cells ticked places slots left model_now at (row_ticks told) answers now
+  abbrev pub showing_now : Showing
+  showing_now = showing pure waiting noted always numbers cells ticked places slots left model_now at (row_ticks told) answers now
 
   module _ (s : Setting) (uses : List Use) (A : Assignment) (n : ℕ) (between : IsBetween stages Before model_now at ticks answers now s uses A n) where
     abbrev base : Row
@@ -111,11 +111,11 @@ module _ (pure waiting : List Entry) (noted : UnclockedReads) (always : List Clo
       ticks_are = row_is;
     }
 
-  pub can_step_all : CanTakeRest stages Before model_now at ticks answers now → (i : ℕ) (slot : Slot Piece) → slice_get slots i ≡ Some slot → CanStep telling_now slot.piece.part
+  pub can_step_all : CanTakeRest stages Before model_now at ticks answers now → (i : ℕ) (slot : Slot Piece) → slice_get slots i ≡ Some slot → CanStep showing_now slot.piece.part
   can_step_all (s, uses, A, n, between) i slot found =
       can_step pure waiting noted always numbers cells ticked places slots left model_now at (row_ticks told) answers now s uses A n (between_row s uses A n between) i slot found
 
-  module _ (new : List (Slot Piece)) (stepped : AreSteppedAt telling_now model_now.clocking.partitions slots new) (gathered : Values) (gathers : IsWritten (gathered_at model_now.clocking numbers places new) now gathered)
+  module _ (new : List (Slot Piece)) (stepped : AreSteppedAt showing_now model_now.clocking.partitions slots new) (gathered : Values) (gathers : IsWritten (gathered_at model_now.clocking numbers places new) now gathered)
       (shown : List Cell) (opens : IsWritten (opened_by numbers left.last gathered (standing model_now.clocking (row_ticks told) answers)) cells shown) where
     module _ (s : Setting) (uses : List Use) (A : Assignment) (n : ℕ) (between : IsBetween stages Before model_now at ticks answers now s uses A n) where
       abbrev told_between : IsBetween stages Before model_now at (row_ticks told) answers now s uses A n
@@ -289,7 +289,7 @@ module _ (pure waiting : List Entry) (noted : UnclockedReads) (always : List Clo
                 reached_in (p ∷ ps) zero piece at_j y h = reached_first p (joined ps) y (subst (IsReachedBy y) (sym (same_Some p piece at_j)) h)
                 reached_in (p ∷ ps) (suc j) piece at_j y h = reached_second p (joined ps) y (reached_in ps j piece at_j y h)
 
-            goes_on : GoesOnWith s of_slot.own A n of_slot.row telling_now T
+            goes_on : GoesOnWith s of_slot.own A n of_slot.row showing_now T
             goes_on = record {
               agrees = λ x k lt. sym (row_before A n end x k lt);
               meets = valued_at s T n meets;
@@ -338,8 +338,8 @@ may_tell pure waiting noted always numbers cells ticked places slots left model_
     let few = between.based.few in let room = between.based.told_room in omega (arith, few, room)
 
 -- the stages stay where each slot was stepped or rests
-pub same_stages : (telling : Telling) (partitions : List ℕ) (pure waiting : List Entry) (slots new : List (Slot Piece)) → AreSteppedAt telling partitions slots new → stages_in pure waiting new ≡ stages_in pure waiting slots
-same_stages telling partitions pure waiting slots new stepped = ap (λ ps. record { pure = uses_of pure; pieces = ps; waiting = uses_of waiting }) (lists_same (map own_uses new) (map own_uses slots) (λ i. at_place i (slice_get new i) refl))
+pub same_stages : (showing : Showing) (partitions : List ℕ) (pure waiting : List Entry) (slots new : List (Slot Piece)) → AreSteppedAt showing partitions slots new → stages_in pure waiting new ≡ stages_in pure waiting slots
+same_stages showing partitions pure waiting slots new stepped = ap (λ ps. record { pure = uses_of pure; pieces = ps; waiting = uses_of waiting }) (lists_same (map own_uses new) (map own_uses slots) (λ i. at_place i (slice_get new i) refl))
   where
     past : (i : ℕ) → slice_get new i ≡ None → slice_get slots i ≡ None
     past i none = slice_get_past slots i (let le = none_past new i none in let long = stepped.long in omega (arith, le, long))

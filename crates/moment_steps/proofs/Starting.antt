@@ -14,7 +14,7 @@ use Rattle.flat_model.specs.declared.model.FlatName.{FlatName}
 use Rattle.flat_model.specs.declared.model.NameKind.{NameKind}
 use Rattle.flat_model.specs.declared.model.NameKind.TheVariants as kind
 use Rattle.flat_model.specs.declared.table.Left.{Left}
-use Rattle.flat_model.specs.Answers.{value_in, truth_in}
+use Rattle.flat_model.specs.Values.{value_in, truth_in}
 use Rattle.flat_model.specs.Asks.{AsksFor, OfNow, OfLast, OfPrevious, asked}
 use Rattle.flat_model.specs.Assignment.{Assignment, previous_value}
 use Rattle.flat_model.specs.Given.{Row, with_row, IsKnown, IsKnownOf}
@@ -43,16 +43,16 @@ use Rattle.tree_step.specs.declared.frame.ClockNow.{ClockNow}
 use Rattle.tree_step.specs.declared.taking.Entry.{Entry}
 use Rattle.tree_step.specs.Cells.{cell_in}
 use Rattle.tree_step.specs.Changed.{WereMet}
-use Rattle.tree_step.specs.Starts.{Sight, use_of, uses_of, IsAmong, HasCell, KeepsLast, StandsAs, IsClockTold, IsSideSeen, AreSidesSeen, IsEntry, AreSitesApart, IsStart}
+use Rattle.tree_step.specs.Starts.{Sight, use_of, uses_of, IsAmong, HasCell, KeepsLast, StandsAs, IsClockShown, IsSideSeen, AreSidesSeen, IsEntry, AreSitesApart, IsStart}
 use Rattle.tree_step.proofs.Plain.{left_asks}
-use Rattle.partition_step.specs.private.Writing.{IsWritten}
+use Rattle.partition_step.specs.Writing.{IsWritten}
 use Rattle.partition_step.proofs.Lists.{some_at, written_at, written_back}
 use Rattle.partition_step.proofs.Placing.{own_there, IsThere, there}
 use Rattle.moment_steps.specs.declared.taking.UnclockedReads.{UnclockedReads}
 use Rattle.moment_steps.proofs.Rows.{reached_first, reached_second}
 use Rattle.moment_steps.specs.Settled.{IsPlainEntry, AlwaysTicks, IsSettled}
 use Rattle.moment_steps.specs.Standing.{IsLeftAt}
-use Rattle.moment_steps.specs.private.Opening.{opened, opened_by, resting_by, resting, standing_by, standing}
+use Rattle.moment_steps.specs.Opening.{opened, opened_by, resting_by, resting, standing_by, standing}
 
 -- an answer with a truth value is one
 is_truth : (a : Answer) (b : Bool) → truth_in a ≡ Some b → a ≡ Is (value.Bool b)
@@ -142,7 +142,7 @@ module _ (s : Setting) (uses before after : List Use) (entries : List Entry) (or
   has_cell : (x : ℕ) → x < length s.model.names → HasCell numbers cells x
   has_cell x lt = let o = open_cell s pure waiting noted always numbers settled left.last now standings old cells wide opens x lt in (o.cell, o.found)
 
-  told : IsClockTold s S m (value_in now) None clock
+  told : IsClockShown s S m (value_in now) None clock
   told = record {
     ticks = settled.always_ticks.ticks;
     first = λ c is ticking. absurd (none-some c is);
@@ -187,7 +187,7 @@ module _ (s : Setting) (uses before after : List Use) (entries : List Entry) (or
         own = has_cell e.name name_within;
         clock = clock;
         clock_found = ap (slice_get always) is_plain.clock ∙ settled.always_ticks.found;
-        told = subst (λ o. IsClockTold s S m (value_in now) o clock) (sym is_plain.unclocked) told;
+        told = subst (λ o. IsClockShown s S m (value_in now) o clock) (sym is_plain.unclocked) told;
         seen = sides_seen is_plain.equation is_plain.found;
       }
 

@@ -4,4 +4,6 @@ pub mod Standing
 pub mod Stepped
 pub mod Steps
 pub mod Ticked
+pub mod Keeping
+pub mod Opening
 pub mod private

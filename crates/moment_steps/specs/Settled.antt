@@ -9,7 +9,7 @@ use Rattle.fork_steps.specs.declared.slot.Slot.{Slot}
 use Rattle.tree_step.specs.declared.frame.ClockNow.{ClockNow}
 use Rattle.tree_step.specs.declared.taking.Entry.{Entry}
 use Rattle.tree_step.specs.Changed.{AreReadsOf}
-use Rattle.tree_step.specs.Frames.{told_elapsed}
+use Rattle.tree_step.specs.Frames.{shown_elapsed}
 use Rattle.tree_step.specs.Starts.{uses_of, IsAmong}
 use Rattle.moment_body.specs.Stages.{Stages}
 use Rattle.partition_step.specs.Parts.{IsPartOf}
@@ -25,7 +25,7 @@ own_uses slot = uses_of slot.piece.part.entries
 abbrev pub stages_in : List Entry → List Entry → List (Slot Piece) → Stages
 stages_in pure waiting slots = record { pure = uses_of pure; pieces = map own_uses slots; waiting = uses_of waiting }
 
--- an unclocked use that can be solved, told of the one clock that always ticks
+-- an unclocked use that can be solved, shown the one clock that always ticks
 pub record IsPlainEntry (s : Setting) (entry : Entry) : Type 0 where
   pub equation : Equation
   pub found : slice_get s.model.equations entry.equation ≡ Some equation
@@ -33,12 +33,12 @@ pub record IsPlainEntry (s : Setting) (entry : Entry) : Type 0 where
   pub unclocked : class_of_equation s entry.equation ≡ None
   pub clock : entry.clock ≡ 0
 
--- what is told of no clock
+-- what is shown of no clock
 pub record AlwaysTicks (always : List ClockNow) : Type 0 where
   pub clock : ClockNow
   pub found : slice_get always 0 ≡ Some clock
   pub ticks : clock.ticks ≡ true
-  pub measured : IsMeasurable (told_elapsed clock.first clock.interval)
+  pub measured : IsMeasurable (shown_elapsed clock.first clock.interval)
 
 -- the unclocked uses of a model, with what they read and the numbers of its names; and its instants can be measured
 pub record IsSettled (s : Setting) (pure waiting : List Entry) (noted : UnclockedReads) (always : List ClockNow) (numbers : List ℕ) : Type 0 where

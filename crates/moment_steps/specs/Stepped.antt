@@ -3,27 +3,27 @@ use Rattle.std.specs.Prelude.{◌≡◌, ◌⊎◌, ℕ, true, false, List, leng
 use Rattle.fork_steps.specs.declared.slot.Slot.{Slot}
 use Rattle.tree_step.specs.Starts.{uses_of}
 use Rattle.partition_step.specs.declared.part.Outcome.{Outcome}
-use Rattle.partition_step.specs.Steps.{Telling, StepsFrom, failing_in}
+use Rattle.partition_step.specs.Steps.{Showing, StepsFrom, failing_in}
 use Rattle.moment_steps.specs.declared.piece.Piece.{Piece}
 
 -- a piece was stepped, and has its failure
-pub record IsPieceStepped (telling : Telling) (old new : Piece) : Type 0 where
+pub record IsPieceStepped (showing : Showing) (old new : Piece) : Type 0 where
   pub result : Outcome
-  pub steps : StepsFrom telling old.part new.part result
+  pub steps : StepsFrom showing old.part new.part result
   pub told : new.told ≡ failing_in result
   pub same : uses_of new.part.entries ≡ uses_of old.part.entries
 
 -- a slot does not count, and no class of its partition ticks
-pub record HasRested (telling : Telling) (partitions : List ℕ) (i : ℕ) (old new : Slot Piece) : Type 0 where
+pub record HasRested (showing : Showing) (partitions : List ℕ) (i : ℕ) (old new : Slot Piece) : Type 0 where
   pub counts : new.counts ≡ false
   pub same : new.piece ≡ old.piece
-  pub rests : (class : ℕ) → slice_get partitions class ≡ Some i → telling.ticks class ≡ false
+  pub rests : (class : ℕ) → slice_get partitions class ≡ Some i → showing.ticks class ≡ false
 
-pub record HasCounted (telling : Telling) (old new : Slot Piece) : Type 0 where
+pub record HasCounted (showing : Showing) (old new : Slot Piece) : Type 0 where
   pub counts : new.counts ≡ true
-  pub stepped : IsPieceStepped telling old.piece new.piece
+  pub stepped : IsPieceStepped showing old.piece new.piece
 
 -- each slot was stepped, or rested
-pub record AreSteppedAt (telling : Telling) (partitions : List ℕ) (old new : List (Slot Piece)) : Type 0 where
+pub record AreSteppedAt (showing : Showing) (partitions : List ℕ) (old new : List (Slot Piece)) : Type 0 where
   pub long : length new ≡ length old
-  pub each : (i : ℕ) (slot : Slot Piece) → slice_get new i ≡ Some slot → (was : Slot Piece) × (slice_get old i ≡ Some was) × (HasCounted telling was slot ⊎ HasRested telling partitions i was slot)
+  pub each : (i : ℕ) (slot : Slot Piece) → slice_get new i ≡ Some slot → (was : Slot Piece) × (slice_get old i ≡ Some was) × (HasCounted showing was slot ⊎ HasRested showing partitions i was slot)

@@ -1,7 +1,7 @@
 //! The values of clocked names, from the base partitions that were stepped.
 ghost use Rattle.std.specs.Prelude.{◌≡◌};
 ghost use Rattle.moment_steps.specs.Gathered as spec;
-ghost use Rattle.partition_step.specs.private.Writing.{IsWritten};
+ghost use Rattle.partition_step.specs.Writing.{IsWritten};
 
 use crate::piece::Piece;
 use flat_model::Clocking;

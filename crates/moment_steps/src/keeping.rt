@@ -1,7 +1,7 @@
 //! The values that are kept for the next moment.
 ghost use Rattle.std.specs.Prelude.{◌≡◌, length};
-ghost use Rattle.moment_steps.specs.private.Keeping as spec;
-ghost use Rattle.partition_step.specs.private.Writing.{IsWritten};
+ghost use Rattle.moment_steps.specs.Keeping as spec;
+ghost use Rattle.partition_step.specs.Writing.{IsWritten};
 
 use flat_model::Left;
 use std::alloc::Global;

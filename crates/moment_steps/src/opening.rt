@@ -2,8 +2,8 @@
 ghost use Rattle.std.specs.Prelude.{◌≡◌, ◌<◌, ◌^◌, length};
 ghost use Rattle.tree_step.specs.declared.cell.Standing.TheVariants.{Ticks};
 ghost use Rattle.moment_steps.specs.Ticked.{row_ticks};
-ghost use Rattle.moment_steps.specs.private.Opening as spec;
-ghost use Rattle.partition_step.specs.private.Writing.{IsWritten};
+ghost use Rattle.moment_steps.specs.Opening as spec;
+ghost use Rattle.partition_step.specs.Writing.{IsWritten};
 
 use crate::ticks::ticks_at;
 use flat_model::{Clock, Clocking};

@@ -30,7 +30,7 @@ pub struct StagedSteps {
     pub waiting: List<Entry>,
     /// What these uses read.
     pub reads: UnclockedReads,
-    /// What is told of no clock: that it ticks.
+    /// What is shown of no clock: that it ticks.
     pub always: List<ClockNow>,
     /// The numbers of all names, which are also the places of their cells.
     pub numbers: List<u32>,

@@ -2,8 +2,8 @@
 ghost use Rattle.std.specs.Prelude.{◌≡◌, length};
 ghost use Rattle.tree_step.specs.Changed.{CanStartChanged};
 ghost use Rattle.tree_step.specs.Takes.{TakesUses};
-ghost use Rattle.moment_steps.specs.private.Opening.{value_by};
-ghost use Rattle.partition_step.specs.private.Writing.{IsWritten};
+ghost use Rattle.moment_steps.specs.Opening.{value_by};
+ghost use Rattle.partition_step.specs.Writing.{IsWritten};
 
 use first_failure::EquationFailing;
 use flat_model::{FlatModel, Left};

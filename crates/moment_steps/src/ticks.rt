@@ -1,7 +1,7 @@
 //! Which classes tick at a moment, told once for all threads.
 ghost use Rattle.std.specs.Prelude.{◌≡◌, ◌<◌, ◌^◌, length};
 ghost use Rattle.moment_steps.specs.Ticked.{row_ticks};
-ghost use Rattle.partition_step.specs.private.Writing.{IsWritten};
+ghost use Rattle.partition_step.specs.Writing.{IsWritten};
 
 use tick_plan::Ticking;
 

@@ -12,7 +12,7 @@ use Rattle.flat_model.specs.declared.fault.FaultPlace.{FaultPlace}
 use Rattle.flat_model.specs.declared.fault.FaultPlace.TheVariants as place
 use Rattle.flat_model.specs.declared.model.FlatName.{FlatName}
 use Rattle.flat_model.specs.Meaning.{seen_by}
-use Rattle.flat_model.specs.Parts.{kind_of, parts_beside}
+use Rattle.flat_model.specs.Ways.{kind_of, parts_beside}
 use Rattle.flat_model.specs.Assignment.{Assignment}
 use Rattle.flat_model.specs.Setting.{Setting, class_of_name, class_of_equation, clock_of, class_ticks}
 use Rattle.flat_model.specs.Meets.{HasOneValue}

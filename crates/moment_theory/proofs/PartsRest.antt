@@ -14,7 +14,7 @@ use Rattle.flat_model.specs.Operators.{chain, negated, inverted, relation, chose
 use Rattle.flat_model.specs.Functions.{called}
 use Rattle.flat_model.specs.Views.{Views, before}
 use Rattle.flat_model.specs.Meaning.{Meaning, meaning_of_level, seen_by, value_of}
-use Rattle.flat_model.specs.Parts.{Way, beside_of, prefix_of, beside_in_chain, meanings_of, level_of_meanings, reaches_through, beside_through, way_through, way_to, parts_beside}
+use Rattle.flat_model.specs.Ways.{Way, beside_of, prefix_of, beside_in_chain, meanings_of, level_of_meanings, reaches_through, beside_through, way_through, way_to, parts_beside}
 use Rattle.flat_model.proofs.Above.{value_of_roll}
 use Rattle.flat_model.specs.Asks.{Asking, OfNow, Asked, asked, asked_in_level, all_asked}
 use Rattle.flat_model.proofs.Asks.{asked_roll, SameAt, value_rests_on_asked}

@@ -14,7 +14,7 @@ use Rattle.flat_model.specs.Functions.{called}
 use Rattle.flat_model.specs.Meaning.{Meaning, meaning_of_level, seen_by}
 use Rattle.flat_model.specs.Occurrences.{one_if, is_sum, bare_in_level, held_in_level, converted_in_level, reached_in_level, bare_count, held_count, converted_count, is_reached}
 use Rattle.flat_model.specs.Operators.{chain, negated, inverted, relation, chosen}
-use Rattle.flat_model.specs.Parts.{Way, beside_of, prefix_of, beside_in_chain, meanings_of, level_of_meanings, reaches_through, beside_through, way_through, way_to, parts_beside}
+use Rattle.flat_model.specs.Ways.{Way, beside_of, prefix_of, beside_in_chain, meanings_of, level_of_meanings, reaches_through, beside_through, way_through, way_to, parts_beside}
 use Rattle.flat_model.specs.Uses.{IsSolvableFor}
 use Rattle.flat_model.specs.Views.{Views, before}
 use Rattle.moment_theory.specs.Renamed.{renamed_level, renamed, renamed_equation, views_through, HasOwnNumber}

@@ -18,7 +18,7 @@ use Rattle.flat_model.specs.Faults.{EquationFails}
 use Rattle.flat_model.specs.Given.{Row, with_row, IsKnownToTick, CanUse, Solves}
 use Rattle.flat_model.specs.Meaning.{seen_by}
 use Rattle.flat_model.specs.Occurrences.{is_sum, bare_count, held_count, converted_count, reached_in_level, is_reached}
-use Rattle.flat_model.specs.Parts.{Way, way_through, way_to, reaches_through, parts_beside, kind_of}
+use Rattle.flat_model.specs.Ways.{Way, way_through, way_to, reaches_through, parts_beside, kind_of}
 use Rattle.flat_model.specs.Runnable.{IsRunnable}
 use Rattle.flat_model.specs.Setting.{Setting, class_of_name, class_of_equation, clock_of, class_ticks, name_ticks, views_at}
 use Rattle.flat_model.specs.Uses.{Use, ReadsIn, Reads, AreUses, SiteReads}

@@ -10,7 +10,7 @@ use Rattle.flat_model.specs.declared.fault.FaultPlace.{FaultPlace}
 use Rattle.flat_model.specs.declared.fault.FaultPlace.TheVariants as place
 use Rattle.flat_model.specs.Operators.{Answer, Fails}
 use Rattle.flat_model.specs.Meaning.{seen_by}
-use Rattle.flat_model.specs.Parts.{kind_of, parts_beside}
+use Rattle.flat_model.specs.Ways.{kind_of, parts_beside}
 use Rattle.flat_model.specs.Assignment.{Assignment}
 use Rattle.flat_model.specs.Faults.{SiteFails, EquationFails, SomethingFails, IsFirstToFail, IsFirstFault}
 use Rattle.flat_model.specs.Given.{Row, with_row, IsGiven}

@@ -8,7 +8,7 @@ use Rattle.flat_model.specs.Given.{Row, with_row}
 use Rattle.flat_model.specs.Meaning.{seen_by, value_of}
 use Rattle.flat_model.specs.Meets.{HasOneValue}
 use Rattle.flat_model.specs.Order.{IsOrder}
-use Rattle.flat_model.specs.Parts.{parts_beside}
+use Rattle.flat_model.specs.Ways.{parts_beside}
 use Rattle.flat_model.specs.Runnable.{IsRunnable}
 use Rattle.flat_model.specs.Setting.{Setting, class_ticks, views_at}
 use Rattle.flat_model.specs.Uses.{Use, IsSolvableFor, AreUses}

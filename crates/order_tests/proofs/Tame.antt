@@ -19,7 +19,7 @@ use Rattle.flat_model.specs.Occurrences.{is_sum}
 use Rattle.flat_model.specs.Operators.{Answer, Is, Fails, Absent, settled, read, joined, negated}
 use Rattle.flat_model.specs.Views.{Views}
 use Rattle.flat_model.specs.Meaning.{Meaning, seen_by, value_of}
-use Rattle.flat_model.specs.Parts.{Way, beside_of, way_through, way_to}
+use Rattle.flat_model.specs.Ways.{Way, beside_of, way_through, way_to}
 use Rattle.flat_model.specs.Samples.{may_stand}
 use Rattle.flat_model.proofs.Levels.{way_to-Const, way_to-Read, way_to-Previous, way_to-Chain}
 use Rattle.flat_model.proofs.Standings.{may_stand-Const, may_stand-Read, may_stand-Chain, may_stand-Neg, may_stand-Not, may_stand-Apply, may_stand-Previous}

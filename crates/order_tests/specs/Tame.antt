@@ -6,7 +6,7 @@ use Rattle.flat_model.specs.declared.expression.Expr.{Expr}
 use Rattle.flat_model.specs.Operators.{Answer, Is, Fails}
 use Rattle.flat_model.specs.Views.{Views}
 use Rattle.flat_model.specs.Meaning.{seen_by, value_of}
-use Rattle.flat_model.specs.Parts.{beside_of, way_to}
+use Rattle.flat_model.specs.Ways.{beside_of, way_to}
 use Rattle.flat_model.specs.Samples.{samples_are_plain}
 use Rattle.eq_orient.specs.Solving.{is_formed, ArePresent}
 

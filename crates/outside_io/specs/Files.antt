@@ -1,4 +1,4 @@
--- Files by their names, and what is told of one.
+-- Files by their names, and what is known of one.
 use Rattle.std.specs.Prelude.{◌≡◌, ◌≤◌, ◌<◌, ◌+◌, ℕ, List, [], ◌∷◌, take, drop, length, Bool, true, false, Option, Some, None, if◌then◌else◌}
 use Rattle.std.specs.Str.{bytes_eq}
 
@@ -11,43 +11,43 @@ abbrev pub first_named : List ℕ → Files → Option (List ℕ)
 first_named name [] = None
 first_named name (file ∷ rest) = if bytes_eq file.0 name then Some file.1 else first_named name rest
 
--- what is told of a name: nothing, that no file of it is held, or the bytes of its file
-pub data Told : Type 0 where
-  Untold : Told
-  NotHeld : Told
-  File : (bytes : List ℕ) → Told
+-- what is known of a name: nothing, that no file of it is held, or the bytes of its file
+pub data Known : Type 0 where
+  Unknown : Known
+  NotHeld : Known
+  File : (bytes : List ℕ) → Known
 
--- what is told of a name with this file or none, where the flag says that unheld names are empty files
-abbrev pub told_of : Bool → Option (List ℕ) → Told
-told_of empty (Some bytes) = File bytes
-told_of true None = File []
-told_of false None = NotHeld
+-- what is known of a name with this file or none, where the flag says that unheld names are empty files
+abbrev pub known_of : Bool → Option (List ℕ) → Known
+known_of empty (Some bytes) = File bytes
+known_of true None = File []
+known_of false None = NotHeld
 
--- what the held files, where they are told, and the flag tell of a name
-abbrev pub told : Option Files → Bool → List ℕ → Told
-told None empty name = Untold
-told (Some files) empty name = told_of empty (first_named name files)
+-- what the held files, where they are known, and the flag say of a name
+abbrev pub known : Option Files → Bool → List ℕ → Known
+known None empty name = Unknown
+known (Some files) empty name = known_of empty (first_named name files)
 
 -- the first `count` bytes of a buffer are those of the file from a place on
-abbrev pub IsPart : Told → ℕ → List ℕ → ℕ → Type 0
-IsPart Untold at into count = Unit {0}
+abbrev pub IsPart : Known → ℕ → List ℕ → ℕ → Type 0
+IsPart Unknown at into count = Unit {0}
 IsPart NotHeld at into count = ⊥
 IsPart (File bytes) at into count = (at + count ≤ length bytes) × (take count into ≡ take count (drop at bytes))
 
 -- a place is not below the length of the file
-abbrev pub IsPastEnd : Told → ℕ → Type 0
-IsPastEnd Untold at = Unit {0}
+abbrev pub IsPastEnd : Known → ℕ → Type 0
+IsPastEnd Unknown at = Unit {0}
 IsPastEnd NotHeld at = ⊥
 IsPastEnd (File bytes) at = length bytes ≤ at
 
 -- these bytes are the whole file
-abbrev pub IsWhole : Told → List ℕ → Type 0
-IsWhole Untold whole = Unit {0}
+abbrev pub IsWhole : Known → List ℕ → Type 0
+IsWhole Unknown whole = Unit {0}
 IsWhole NotHeld whole = ⊥
 IsWhole (File bytes) whole = whole ≡ bytes
 
 -- the file has more bytes than the limit
-abbrev pub IsLonger : Told → ℕ → Type 0
-IsLonger Untold limit = Unit {0}
+abbrev pub IsLonger : Known → ℕ → Type 0
+IsLonger Unknown limit = Unit {0}
 IsLonger NotHeld limit = ⊥
 IsLonger (File bytes) limit = limit < length bytes

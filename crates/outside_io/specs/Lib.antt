@@ -3,6 +3,6 @@ pub mod Files
 pub mod FilesInMemory
 pub mod NeverFailing
 pub mod Puts
-pub mod Reads
+pub mod FileReads
 pub mod TextInMemory
 pub mod Texts

@@ -1,7 +1,7 @@
--- A text that is told or not, and how it grows.
+-- A text that is known or not, and how it grows.
 use Rattle.std.specs.Prelude.{◌≡◌, ℕ, ◌≤◌, List, ◌++◌, Option, Some, None, length, take}
 
--- the text with more at its end, where it is told
+-- the text with more at its end, where it is known
 abbrev pub grown : List ℕ → Option (List ℕ) → Option (List ℕ)
 grown more None = None
 grown more (Some text) = Some (text ++ more)

@@ -1,9 +1,9 @@
 //! Files in memory.
 ghost use Rattle.std.specs.Prelude.{◌≡◌, ◌≢◌, ◌<◌, ◌≤◌, List, ℕ, Some, false, length, min, option_map};
 ghost use Rattle.outside_io.specs.Counts.{Rose};
-ghost use Rattle.outside_io.specs.Files.{File, first_named, told};
+ghost use Rattle.outside_io.specs.Files.{File, first_named, known};
 ghost use Rattle.outside_io.specs.FilesInMemory.{after_read, faults_of, files_of, new_shelf, part_of_file, read_answer};
-ghost use Rattle.outside_io.specs.Reads.{Gives};
+ghost use Rattle.outside_io.specs.FileReads.{Gives};
 
 use crate::shelf::{Read, Shelf};
 use std::marker::Model;
@@ -68,7 +68,7 @@ impl Shelf for MemShelf {
         ensures after { self.new ≡ after_read self.old name.now }
 
         // As each shelf does.
-        ensures gives { Gives (told (Some self.old.files) false name.now) at into.new result }
+        ensures gives { Gives (known (Some self.old.files) false name.now) at into.new result }
         ensures failed { result ≡ Read.Failed →
             Rose (faults_of self.old name.now) (faults_of self.new name.now) }
         ensures quiet { result ≢ Read.Failed → (other : List ℕ) → faults_of self.new other ≡ faults_of self.old other }

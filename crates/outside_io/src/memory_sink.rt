@@ -4,10 +4,10 @@ ghost use Rattle.outside_io.specs.Counts.{Rose};
 ghost use Rattle.outside_io.specs.Puts.{Takes};
 ghost use Rattle.outside_io.specs.TextInMemory.{after_put, new_sink, put_answer};
 
-use crate::no_memory::NoMemory;
 use crate::sink::{Put, Sink};
 use std::alloc::Global;
 use std::marker::Model;
+use sync_values::NoMemory;
 
 /// A text in memory, with puts that fail on purpose.
 #[derive(Drop)]

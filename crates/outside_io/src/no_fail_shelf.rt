@@ -1,10 +1,10 @@
 //! Files in memory that are always read.
 ghost use Rattle.std.specs.Prelude.{◌≡◌, ◌<◌, Some, true, length};
 ghost use Rattle.outside_io.specs.Counts.{Rose};
-ghost use Rattle.outside_io.specs.Files.{told};
+ghost use Rattle.outside_io.specs.Files.{known};
 ghost use Rattle.outside_io.specs.FilesInMemory.{files_of};
 ghost use Rattle.outside_io.specs.NeverFailing.{sure_answer};
-ghost use Rattle.outside_io.specs.Reads.{Gives};
+ghost use Rattle.outside_io.specs.FileReads.{Gives};
 
 use crate::memory_shelf::{file_of, part_of};
 use crate::shelf::{Read, Shelf};
@@ -47,7 +47,7 @@ impl Shelf for NoFailShelf {
         ensures kept { self.new ≡ self.old }
 
         // As each shelf does.
-        ensures gives { Gives (told (Some self.old) true name.now) at into.new result }
+        ensures gives { Gives (known (Some self.old) true name.now) at into.new result }
         ensures failed { result ≡ Read.Failed → Rose 0 0 }
     {
         let room = into.len();

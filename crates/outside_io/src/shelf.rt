@@ -1,8 +1,8 @@
 //! Files that are read part by part.
 ghost use Rattle.std.specs.Prelude.{◌≡◌, ◌≢◌, ◌<◌, ◌≤◌, Bool, List, Option, ℕ, length};
 ghost use Rattle.outside_io.specs.Counts.{Rose};
-ghost use Rattle.outside_io.specs.Files.{Files, told};
-ghost use Rattle.outside_io.specs.Reads.{Gives};
+ghost use Rattle.outside_io.specs.Files.{Files, known};
+ghost use Rattle.outside_io.specs.FileReads.{Gives};
 
 /// What a read of a file gave.
 #[derive(Clone, Copy, PartialEq, Eq)]
@@ -17,7 +17,7 @@ pub enum Read {
 
 /// Files by their names, with the faults of reading them counted.
 pub trait Shelf {
-    /// The held files, where they are told.
+    /// The held files, where they are known.
     ghost held: { Self → Option Files };
 
     /// Names that are not held are read as empty files.
@@ -31,7 +31,7 @@ pub trait Shelf {
     /// A read that does not fail leaves the counts.
     fn read(&mut self, name: &str, at: u64, into: &mut [u8]) -> Read
         requires { 0 < length into.old }
-        ensures gives { let file = told (held self.old) (gives_empty self.old) name.now in
+        ensures gives { let file = known (held self.old) (gives_empty self.old) name.now in
             Gives file at into.new result }
         ensures failed { result ≡ Read.Failed →
             Rose (faults self.old name.now) (faults self.new name.now) }

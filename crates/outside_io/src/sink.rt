@@ -30,7 +30,7 @@ impl Error for WriteFailed {}
 
 /// A text that grows, with the faults of writing it counted.
 pub trait Sink {
-    /// The text so far, where it is told.
+    /// The text so far, where it is known.
     ghost text: { Self → Option (List ℕ) };
 
     /// How often puts failed. The count stops at 2^64-1.

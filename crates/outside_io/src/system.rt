@@ -2,9 +2,9 @@
 //! is not told, and no more is known of it than the counts that the machine reports.
 ghost use Rattle.std.specs.Prelude.{◌≡◌, ◌≢◌, ◌<◌, ◌≤◌, None, false, List, ℕ, length, IfOk};
 ghost use Rattle.outside_io.specs.Counts.{Rose};
-ghost use Rattle.outside_io.specs.Files.{Untold};
+ghost use Rattle.outside_io.specs.Files.{Unknown};
 ghost use Rattle.outside_io.specs.Puts.{Takes, faults_after_put};
-ghost use Rattle.outside_io.specs.Reads.{Gives, faults_after_read};
+ghost use Rattle.outside_io.specs.FileReads.{Gives, faults_after_read};
 
 use crate::shelf::{Read, Shelf};
 use crate::sink::{Put, Sink};
@@ -48,7 +48,7 @@ impl<'a, R: Files> Shelf for FileShelf<'a, R> {
         ensures count { self.new ≡ faults_after_read self.old result }
 
         // As each shelf does.
-        ensures gives { Gives Untold at into.new result }
+        ensures gives { Gives Unknown at into.new result }
         ensures failed { result ≡ Read.Failed → Rose self.old self.new }
         ensures quiet { result ≢ Read.Failed → (other : List ℕ) → self.new ≡ self.old }
         ensures counts { (other : List ℕ) → self.old ≤ self.new }

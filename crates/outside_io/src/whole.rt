@@ -1,7 +1,7 @@
 //! Files that are read whole.
 ghost use Rattle.std.specs.Prelude.{◌≡◌, ◌≢◌, ◌<◌, ◌≤◌, ◌^◌, List, ℕ, length, IfOk};
 ghost use Rattle.outside_io.specs.Counts.{Rose};
-ghost use Rattle.outside_io.specs.Files.{told, IsLonger, IsWhole};
+ghost use Rattle.outside_io.specs.Files.{known, IsLonger, IsWhole};
 ghost use Rattle.outside_io.specs.declared.whole.ReadEnd.TheVariants.{NoMemory};
 
 use crate::shelf::{Read, Shelf};
@@ -51,10 +51,10 @@ pub fn read_whole<S: Shelf>(
     limit: u64,
 ) -> Result<Vec<u8>, ReadEnd>
     requires { limit < 2 ^ 32 }
-    ensures whole { let file = told (S.held shelf.old) (S.gives_empty shelf.old) name.now in
+    ensures whole { let file = known (S.held shelf.old) (S.gives_empty shelf.old) name.now in
         IfOk result (λ bytes. IsWhole file bytes.items) }
     ensures within { IfOk result (λ bytes. length bytes.items ≤ limit) }
-    ensures long { let file = told (S.held shelf.old) (S.gives_empty shelf.old) name.now in
+    ensures long { let file = known (S.held shelf.old) (S.gives_empty shelf.old) name.now in
         result ≡ Err ReadEnd.TooLong → IsLonger file limit }
     ensures failed { result ≡ Err ReadEnd.Failed →
         Rose (S.faults shelf.old name.now) (S.faults shelf.new name.now) }

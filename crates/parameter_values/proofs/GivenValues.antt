@@ -3,7 +3,7 @@ use Rattle.std.proofs.Common.{◌≡◌, refl, ap, sym, ◌∙◌, subst, ℕ, s
 use Rattle.std.proofs.lemmas.Option.{slice_get-map}
 use Rattle.std.proofs.Math.Path.{fun_ext}
 use Rattle.sync_values.specs.declared.value.Value.{Value}
-use Rattle.mo_order.specs.Values.{Slots, Rules, Larger, Tells, AreAll}
+use Rattle.mo_order.specs.Values.{Slots, Rules, Larger, Answers, AreAll}
 use Rattle.mo_order.specs.declared.queue.Given.{Given}
 use Rattle.mo_order.proofs.Queueing.{larger_self}
 use Rattle.mo_parser.specs.declared.tree.ClassDef.{ClassDef}
@@ -18,9 +18,9 @@ use Rattle.class_scopes.specs.Spelled.{Ident}
 use Rattle.class_scopes.specs.Tables.{Numbered}
 use Rattle.flat_instances.specs.Instances.{Placed, Variable}
 use Rattle.parameter_values.specs.Values.{Values, of_kind, zero_of, answer, value_by, value_expr, value_from}
-use Rattle.parameter_values.specs.private.Slots.{seen, rules_of, parameters}
-use Rattle.parameter_values.specs.private.Outcomes.{outcome}
-use Rattle.parameter_values.specs.private.Givens.{given_value, given_of, Valued, valued, valued_of, rules_by, value_with, HaveValues}
+use Rattle.parameter_values.specs.Slots.{seen, rules_of, parameters}
+use Rattle.parameter_values.specs.Outcomes.{outcome}
+use Rattle.parameter_values.specs.Givens.{given_value, given_of, Valued, valued, valued_of, rules_by, value_with, HaveValues}
 use Rattle.class_scopes.specs.Types.{kind_of}
 use Rattle.parameter_values.proofs.Slots.{found_values}
 use Rattle.parameter_values.proofs.OutcomeMeaning.{Matches, outcome_matches}
@@ -38,12 +38,12 @@ kind_fails (Some kind.Boolean) f = refl
 kind_fails (Some kind.Clock) f = refl
 
 -- what is the same from all larger values is told
-pub always : (rules : Rules) (slots : Slots) (x : ℕ) (r : Option Value) → ((new : Slots) → Larger slots new → rules new x ≡ r) → Tells rules slots x (given_value r)
+pub always : (rules : Rules) (slots : Slots) (x : ℕ) (r : Option Value) → ((new : Slots) → Larger slots new → rules new x ≡ r) → Answers rules slots x (given_value r)
 always rules slots x (Some v) same = same
 always rules slots x None same = same
 
 module _ (rules : Rules) (slots : Slots) (x : ℕ) (k : Option NameKind) (answers : Slots → Answer) (same : (new : Slots) → rules new x ≡ of_kind k (answers new)) where
-  pub given_tells : (o : Outcome) → ((new : Slots) (larger : Larger slots new) → Matches slots new larger o (answers new)) → Tells rules slots x (given_of k o)
+  pub given_tells : (o : Outcome) → ((new : Slots) (larger : Larger slots new) → Matches slots new larger o (answers new)) → Answers rules slots x (given_of k o)
   given_tells (out.Known v) m = always rules slots x (of_kind k (Is v)) (λ new larger. same new ∙ ap (of_kind k) ((m new larger).told tt))
   given_tells (out.Failing f) m = λ new larger. same new ∙ ap (of_kind k) ((m new larger).told tt) ∙ kind_fails k f
   given_tells (out.Missing None) m = λ new larger. same new ∙ ap (of_kind k) ((m new larger).told tt) ∙ kind_absent k
@@ -52,7 +52,7 @@ module _ (rules : Rules) (slots : Slots) (x : ℕ) (k : Option NameKind) (answer
 
 -- of a parameter with an expression
 pub expr_tells : (text : List ℕ) (table : Numbered) (items : List Valued) (slots : Slots) (x : ℕ) (k : Option NameKind) (scope : Ident) (expr : TreeExpr)
-    → slice_get items x ≡ Some (k, Some (record { scope = scope; expr = expr })) → Tells (rules_by text table items) slots x (given_of k (outcome text table slots scope expr))
+    → slice_get items x ≡ Some (k, Some (record { scope = scope; expr = expr })) → Answers (rules_by text table items) slots x (given_of k (outcome text table slots scope expr))
 expr_tells text table items slots x k scope expr at =
     given_tells (rules_by text table items) slots x k (λ new. answer text [] (seen table new) scope expr)
     (λ new. ap (option_and_then (value_with text table new)) at) (outcome text table slots scope expr)
@@ -60,7 +60,7 @@ expr_tells text table items slots x k scope expr at =
 
 -- of one without
 pub zero_tells : (text : List ℕ) (table : Numbered) (items : List Valued) (slots : Slots) (x : ℕ) (k : Option NameKind)
-    → slice_get items x ≡ Some (k, None) → Tells (rules_by text table items) slots x (given_value (zero_of k))
+    → slice_get items x ≡ Some (k, None) → Answers (rules_by text table items) slots x (given_value (zero_of k))
 zero_tells text table items slots x k at =
     always (rules_by text table items) slots x (zero_of k) (λ new larger. ap (option_and_then (value_with text table new)) at)
 
@@ -69,8 +69,8 @@ pub kept_at : (items : List Parameter) (x : ℕ) (p : Parameter) (placed : Optio
     → option_map (λ expr. record { scope = p.scope; expr = expr.now }) p.expr ≡ placed → slice_get (map valued items) x ≡ Some (p.kind, placed)
 kept_at items x p placed at is = slice_get-map valued items x ∙ ap (option_map valued) at ∙ ap (λ z. Some (p.kind, z)) is
 
-pub told_as : (rules : Rules) (slots : Slots) (x : ℕ) (given want : Given) → given ≡ want → Tells rules slots x want → Tells rules slots x given
-told_as rules slots x given want same told = subst (Tells rules slots x) (sym same) told
+pub told_as : (rules : Rules) (slots : Slots) (x : ℕ) (given want : Given) → given ≡ want → Answers rules slots x want → Answers rules slots x given
+told_as rules slots x given want same told = subst (Answers rules slots x) (sym same) told
 
 -- the classes say nothing of an answer
 answer_classes : (text : List ℕ) (classes : List ClassDef) (values : Values) (scope : Ident) (expr : TreeExpr) → answer text [] values scope expr ≡ answer text classes values scope expr

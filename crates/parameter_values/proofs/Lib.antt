@@ -1,4 +1,4 @@
-pub mod Answers
+pub mod MoreValues
 pub mod Derivations
 pub mod Dots
 pub mod GivenValues

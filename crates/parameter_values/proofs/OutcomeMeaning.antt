@@ -19,10 +19,10 @@ use Rattle.flat_model.specs.Functions.{called}
 use Rattle.class_scopes.specs.Spelled.{Ident, idents, dotted, is_time}
 use Rattle.class_scopes.specs.Tables.{Numbered, number_of}
 use Rattle.parameter_values.specs.Values.{function_named, called_by, answer_level, answer}
-use Rattle.parameter_values.specs.private.Slots.{seen, value_at, itself}
+use Rattle.parameter_values.specs.Slots.{seen, value_at, itself}
 use Rattle.parameter_values.specs.declared.evaluate.Outcome.{Outcome}
 use Rattle.parameter_values.specs.declared.evaluate.Outcome.TheVariants as out
-use Rattle.parameter_values.specs.private.Outcomes.{answer_of, outcome_of, Blocked, lift, negated_outcome, inverted_outcome, related_outcome, is_enough, joined_if, joined_outcome, chained_outcome, chain_outcome, chosen_outcome, called_pair, called_outcome, called_outcome_by, slot_outcome, number_outcome, outcome_level, outcome}
+use Rattle.parameter_values.specs.Outcomes.{answer_of, outcome_of, Blocked, lift, negated_outcome, inverted_outcome, related_outcome, is_enough, joined_if, joined_outcome, chained_outcome, chain_outcome, chosen_outcome, called_pair, called_outcome, called_outcome_by, slot_outcome, number_outcome, outcome_level, outcome}
 use Rattle.parameter_values.proofs.Larger.{joined_absent, joined_fails}
 
 module _ (old new : Slots) (larger : Larger old new) where

@@ -16,7 +16,7 @@ use Rattle.class_scopes.specs.Tables.{Numbered}
 use Rattle.parameter_values.specs.Values.{function_named}
 use Rattle.parameter_values.specs.declared.evaluate.Outcome.{Outcome}
 use Rattle.parameter_values.specs.declared.evaluate.Outcome.TheVariants as out
-use Rattle.parameter_values.specs.private.Outcomes.{outcome, outcome_level, name_outcome, called_outcome_by, chain_outcome, related_outcome, negated_outcome, inverted_outcome, chosen_outcome}
+use Rattle.parameter_values.specs.Outcomes.{outcome, outcome_level, name_outcome, called_outcome_by, chain_outcome, related_outcome, negated_outcome, inverted_outcome, chosen_outcome}
 
 module _ (text : List ℕ) (table : Numbered) (slots : Slots) (scope : Ident) where
   abbrev told : TreeExpr → Outcome

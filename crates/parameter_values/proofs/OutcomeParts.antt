@@ -3,7 +3,7 @@ use Rattle.std.proofs.Common.{◌≡◌, refl, ℕ, zero, suc, ◌≤◌, List, 
 use Rattle.std.proofs.lemmas.List.{length-drop}
 use Rattle.sync_values.specs.declared.value.ChainOp.{ChainOp}
 use Rattle.parameter_values.specs.declared.evaluate.Outcome.{Outcome}
-use Rattle.parameter_values.specs.private.Outcomes.{chained_outcome}
+use Rattle.parameter_values.specs.Outcomes.{chained_outcome}
 
 none_dropped : (k : ℕ) (xs : List Outcome) → length xs ≡ 0 → length (drop k xs) ≡ 0
 none_dropped zero xs none = none

@@ -9,9 +9,9 @@ use Rattle.class_scopes.specs.Spelled.{Ident}
 use Rattle.class_scopes.specs.Tables.{Numbered, number_of}
 use Rattle.flat_instances.specs.Instances.{Variable}
 use Rattle.parameter_values.specs.Values.{Values, is_parameter, value_from, parameter_named, derived, AreValues}
-use Rattle.parameter_values.specs.private.Slots.{value_at, itself, seen, parameters, names_of, rules_of, IsTableOfParameters}
+use Rattle.parameter_values.specs.Slots.{value_at, itself, seen, parameters, names_of, rules_of, IsTableOfParameters}
 use Rattle.parameter_values.proofs.Derivations.{Below, IsSound, IsClosed, rises}
-use Rattle.parameter_values.proofs.Answers.{value_grows, table_of_values}
+use Rattle.parameter_values.proofs.MoreValues.{value_grows, table_of_values}
 
 from_least : {A : Type 0} (test : A → Bool) (i k : ℕ) (xs : List A) → position_from test i xs ≡ Some k → i ≤ k
 from_least test i k [] is = absurd (cc is)

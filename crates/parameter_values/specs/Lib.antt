@@ -1,2 +1,4 @@
 pub mod Values
-pub mod private
+pub mod Givens
+pub mod Outcomes
+pub mod Slots

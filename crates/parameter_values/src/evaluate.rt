@@ -4,8 +4,8 @@ ghost use Rattle.flat_model.specs.Operators.{Is, applied, negated, inverted, rel
 ghost use Rattle.flat_model.specs.Functions.{called};
 ghost use Rattle.class_scopes.specs.Spelled as spellings;
 ghost use Rattle.parameter_values.specs.Values as values;
-ghost use Rattle.parameter_values.specs.private.Outcomes as outcomes;
-ghost use Rattle.parameter_values.specs.private.Givens as givens;
+ghost use Rattle.parameter_values.specs.Outcomes as outcomes;
+ghost use Rattle.parameter_values.specs.Givens as givens;
 
 use class_scopes::{Table, is_time};
 use flat_model::{Fun, NameKind};
@@ -389,7 +389,7 @@ fn given_zero(kind: Option<NameKind>) -> Given
 
 impl<'a> Giver for Parameters<'a> {
     ghost use Rattle.std.specs.Prelude.{map};
-    ghost use Rattle.parameter_values.specs.private.Givens as givens;
+    ghost use Rattle.parameter_values.specs.Givens as givens;
 
     ghost rules = { λ s. givens.rules_by s.text.now s.numbers.now (map givens.valued s.items.now) };
 

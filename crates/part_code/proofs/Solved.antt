@@ -14,9 +14,6 @@ use Rattle.part_code.specs.private.Refused.{IsDueTo}
 use Rattle.part_code.proofs.Refusing.{due_within}
 
 module _ (equations : List Equation) (entry : Entry) where
-  pub no_equation : slice_get equations entry.equation ≡ None → HasNoSide equations entry
-  no_equation none equation found = absurd (none-some equation (sym none ∙ found))
-
   module _ (equation : Equation) (found : slice_get equations entry.equation ≡ Some equation) where
     pub side_found : (r : Result NameSide NoCode) → IfOk r (λ side. IsSolvedSide entry.name equation (expr_of side)) → IfOk r (λ side. IsSideOf equations entry (expr_of side))
     side_found r = IfOk-weaker r (λ side. IsSolvedSide entry.name equation (expr_of side)) (λ side. IsSideOf equations entry (expr_of side)) (λ side solved. record { equation = equation; found = found; solved = solved })

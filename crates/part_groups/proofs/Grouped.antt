@@ -10,7 +10,7 @@ use Rattle.mo_connect.specs.declared.Pair.{Pair}
 use Rattle.mo_connect.specs.Chain.{Chain, stay, forward, backward, IsPair}
 use Rattle.mo_connect.proofs.Chains.{follow, reversed}
 use Rattle.moment_order.specs.declared.stage.Stage.{Stage}
-use Rattle.base_partition.specs.working.First.{IsFirst}
+use Rattle.base_partition.specs.private.First.{IsFirst}
 use Rattle.part_groups.specs.Groups.{AreJoined, AreGroups}
 use Rattle.part_groups.specs.Units.{AreDistinct, Needs}
 use Rattle.part_groups.specs.private.Joining.{ArePairs}

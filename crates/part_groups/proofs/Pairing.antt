@@ -36,9 +36,6 @@ to_flat f (z ∷ xs) x y (zero, lt, is) own = Contains-append_left (f z) (flat_m
 to_flat f (z ∷ xs) x y (suc i, lt, is) own = Contains-append_right (f z) (flat_map f xs) y (to_flat f xs x y (i, omega (arith, lt), is) own)
 
 module _ (equations : List Equation) (owners : List (Option ℕ)) (order : List answered.Use) (units : List (Option ℕ)) where
-  pub pairs_first : ArePairs equations owners order units 0 []
-  pairs_first = record { just = λ pair there. absurd (nothing pair there); whole = λ i pair lt of. absurd (omega (arith, lt)) }
-
   pub pairs_more : (at : ℕ) (entry : answered.Use) (unit : Option ℕ) (old new : List Pair) → slice_get order at ≡ Some entry → unit ≡ flattened (slice_get units at) → new ≡ old ++ pairs_for equations owners unit entry
       → ArePairs equations owners order units at old → ArePairs equations owners order units (at + 1) new
   pairs_more at entry unit old new found unit_is is so = record { just = just; whole = whole }

@@ -2,7 +2,7 @@
 ghost use Rattle.std.specs.Prelude.{◌≡◌, ℕ, ◌<◌, All, List, length, IfOk, vec_len, slice_index_or, []};
 ghost use Rattle.mo_connect.specs.Chain.{AreBelow};
 ghost use Rattle.mo_connect.specs.Classes.{AreClasses};
-ghost use Rattle.base_partition.specs.working.First.{IsFirst, Marks, AllMarked};
+ghost use Rattle.base_partition.specs.private.First.{IsFirst, Marks, AllMarked};
 
 use mo_connect::{Pair, sets};
 use std::alloc::{AllocError, Global};

@@ -11,4 +11,3 @@ mod reads;
 
 pub use law::{laid_law, table_law};
 pub use lines::{PartLine, lay_out};
-pub use reads::add_reads;

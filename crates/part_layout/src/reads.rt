@@ -124,7 +124,12 @@ fn add_choice(
 /// needed.
 #[cycle(reads)]
 #[tactic(auto, using(crate::proofs::Reading::readings))]
-pub fn add_reads(keys: &mut CellKeys, class: u32, sight: Sight, expr: &Expr) -> Result<(), NoCell>
+pub(crate) fn add_reads(
+    keys: &mut CellKeys,
+    class: u32,
+    sight: Sight,
+    expr: &Expr,
+) -> Result<(), NoCell>
     ensures { Adds keys.old (keys_read expr.now class sight) keys.new result }
 {
     match expr {

@@ -20,12 +20,12 @@ use Rattle.side_theory.specs.SetOn.{AreNoClockCells}
 use Rattle.side_theory.specs.Stretches.{AreLinesOf}
 use Rattle.side_theory.proofs.Counting.{reached_split, free_behind}
 use Rattle.side_theory.proofs.Keeping.{holds_row}
-use Rattle.side_theory.proofs.Setting.{taken_other, own_class, ticks_same, set_on, clock_on}
+use Rattle.side_theory.proofs.SetCells.{taken_other, own_class, ticks_same, set_on, clock_on}
 use Rattle.side_theory.proofs.Taking.{run_takes}
 use Rattle.part_stretches.specs.declared.running.ClassStretch.{ClassStretch}
 use Rattle.part_stretches.specs.declared.running.PartFailing.{PartFailing}
 use Rattle.part_stretches.specs.Running.{tick_in, GoesOn, RunsOne, RunsFrom}
-use Rattle.part_stretches.specs.Parts.{Block, entries_of, AreAlike, IsBlock, AreBlocks, AreTold, AllBegin, PartFails, PartTaken}
+use Rattle.part_stretches.specs.Parts.{Block, entries_of, AreAlike, IsBlock, AreBlocks, AreShown, AllBegin, PartFails, PartTaken}
 
 -- cells that are set by one table are so by one that is alike
 set_alike : (s : Setting) (S : Assignment) (m : ℕ) (row : Row) (a b : Cells) (t : ℕ) (cells : List ℤ) → AreAlike a b → IsSet s S m row a t cells → IsSet s S m row b t cells
@@ -41,7 +41,7 @@ set_alike s S m row a b t cells alike set = record {
 alike_back : (a b : Cells) → AreAlike a b → AreAlike b a
 alike_back a b alike = record { now = λ k x. sym (alike.now k x); previous = λ k x. sym (alike.previous k x); last = λ k x. sym (alike.last k x); const = λ k v. sym (alike.const k v) }
 
--- the cells that tell of a clock are no line's
+-- the cells that show a clock are no line's
 no_clock_cells : (a b : Cells) (t : ℕ) → AreAlike a b → AreApart b → (there : Cells) → AreAlike a there → (ls : List Line) → AreCelled there t ls → AreNoClockCells b ls
 no_clock_cells a b t alike apart there like ls celled = record {
   first = λ c is. none ls celled c (λ x now. apart.first 0 x c now is);
@@ -159,7 +159,7 @@ module _ (s : Setting) (uses : List Use) (p : Option ℕ) (common : Cells) (t : 
             taken_other s S m block.entries row all.last all.taken y (λ own. reached_once s y block.entries (entries_of blocks ++ after) free own (reached_before y (entries_of blocks) after reached))
             ∙ clear y (reached_behind y block.entries (entries_of blocks) reached)
 
-        told_next : (some : List ClassStretch) (others : List Block) → AreBlocks s uses p common t some others → AreTold s S m row ticking t old others → AreTold s S m all.last ticking t mid others
+        told_next : (some : List ClassStretch) (others : List Block) → AreBlocks s uses p common t some others → AreShown s S m row ticking t old others → AreShown s S m all.last ticking t mid others
         told_next [] [] are told = tt
         told_next [] (b ∷ others) are told = absurd are
         told_next (o ∷ some) [] are told = absurd are
@@ -173,7 +173,7 @@ module _ (s : Setting) (uses : List Use) (p : Option ℕ) (common : Cells) (t : 
         )
 
   pub takes : (before after : List Use) (blocks : List Block) → IsOrdered s uses (before ++ (entries_of blocks ++ after)) → (stretches : List ClassStretch) → AreBlocks s uses p common t stretches blocks
-      → (row : Row) → AllBegin s p S m row before → IsClear (entries_of blocks) row → (i : ℕ) (old new : List ℤ) (result : Option PartFailing) → IsSet s S m row common t old → AreTold s S m row ticking t old blocks
+      → (row : Row) → AllBegin s p S m row before → IsClear (entries_of blocks) row → (i : ℕ) (old new : List ℤ) (result : Option PartFailing) → IsSet s S m row common t old → AreShown s S m row ticking t old blocks
       → RunsFrom i ticking stretches old new result → PartTaken s uses S m row i blocks common t new result
   takes before after [] ordered [] are row begins clear i old new result set told runs =
       subst (λ r. PartTaken s uses S m row i [] common t new r) (sym runs.0) (row, (λ y. refl), subst (λ z. IsSet s S m row common t z) (sym runs.1) set)

@@ -32,7 +32,7 @@ abbrev pub entries_of : List Block → List Use
 entries_of [] = []
 entries_of (block ∷ blocks) = block.entries ++ entries_of blocks
 
--- two tables of cells are the same but for what is told of clocks
+-- two tables of cells are the same but for what is shown of clocks
 pub record AreAlike (a b : Cells) : Type 0 where
   pub now : (k x : ℕ) → (a k).now x ≡ (b k).now x
   pub previous : (k x : ℕ) → (a k).previous x ≡ (b k).previous x
@@ -56,11 +56,11 @@ AreBlocks s uses p common t [] [] = Unit {0}
 AreBlocks s uses p common t (one ∷ rest) (block ∷ blocks) = IsBlock s uses p common t one block × AreBlocks s uses p common t rest blocks
 AreBlocks s uses p common t _ _ = ⊥
 
--- it is told of each block whether its class ticks, and where it does its clock's cells are set
-abbrev pub AreTold : Setting → Assignment → ℕ → Row → List Bool → ℕ → List ℤ → List Block → Type 0
-AreTold s S m row ticking t cells [] = Unit {0}
-AreTold s S m row ticking t cells (block ∷ blocks) =
-    ((tick_in ticking block.class ≡ class_ticks s (with_row S m row) (Some block.class) m) × (tick_in ticking block.class ≡ true → IsClockSet s S m block.class block.at t cells)) × AreTold s S m row ticking t cells blocks
+-- it is shown of each block whether its class ticks, and where it does its clock's cells are set
+abbrev pub AreShown : Setting → Assignment → ℕ → Row → List Bool → ℕ → List ℤ → List Block → Type 0
+AreShown s S m row ticking t cells [] = Unit {0}
+AreShown s S m row ticking t cells (block ∷ blocks) =
+    ((tick_in ticking block.class ≡ class_ticks s (with_row S m row) (Some block.class) m) × (tick_in ticking block.class ≡ true → IsClockSet s S m block.class block.at t cells)) × AreShown s S m row ticking t cells blocks
 
 -- a stretch of any class of the base partition that ticks begins with the row
 abbrev pub AllBegin : Setting → Option ℕ → Assignment → ℕ → Row → List Use → Type 0
@@ -89,5 +89,5 @@ PartTaken s uses S m row i blocks common t new (Some failing) = PartFails s uses
 -- over cells that are set for a moment, a run of the stretches of a base partition takes the uses of their equations, or tells the first of them to fail
 abbrev pub PartLaw : Type 0
 PartLaw = (s : Setting) (uses before after : List Use) (blocks : List Block) → IsOrdered s uses (before ++ (entries_of blocks ++ after)) → (p : Option ℕ) (common : Cells) (t : ℕ) (stretches : List ClassStretch) → AreBlocks s uses p common t stretches blocks
-    → (S : Assignment) (m : ℕ) (row : Row) → AllBegin s p S m row before → IsClear (entries_of blocks) row → (ticking : List Bool) (i : ℕ) (old new : List ℤ) (result : Option PartFailing) → IsSet s S m row common t old → AreTold s S m row ticking t old blocks
+    → (S : Assignment) (m : ℕ) (row : Row) → AllBegin s p S m row before → IsClear (entries_of blocks) row → (ticking : List Bool) (i : ℕ) (old new : List ℤ) (result : Option PartFailing) → IsSet s S m row common t old → AreShown s S m row ticking t old blocks
     → RunsFrom i ticking stretches old new result → PartTaken s uses S m row i blocks common t new result

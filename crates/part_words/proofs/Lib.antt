@@ -1,3 +1,3 @@
 pub mod Filling
-pub mod Setting
+pub mod SetWords
 pub mod Wholes

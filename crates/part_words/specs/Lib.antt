@@ -1,2 +1,2 @@
-pub mod Setting
+pub mod SetWords
 pub mod Words

@@ -4,7 +4,7 @@ use Rattle.sync_values.specs.Arithmetic.{fitted}
 use Rattle.sync_values.specs.Relation.{rank}
 use Rattle.sync_values.specs.declared.value.Value.{Value}
 use Rattle.sync_values.specs.declared.value.Fail.{Fail}
-use Rattle.flat_model.specs.Answers.{value_in}
+use Rattle.flat_model.specs.Values.{value_in}
 use Rattle.flat_model.specs.Intervals.{IsMeasurable, length_of}
 use Rattle.flat_model.specs.Meaning.{whole_of}
 use Rattle.cell_keys.specs.declared.key.CellKey.{CellKey}
@@ -13,7 +13,7 @@ use Rattle.step_code.specs.Machine.{bit, word_at}
 use Rattle.tree_step.specs.declared.cell.Cell.{Cell}
 use Rattle.tree_step.specs.declared.frame.ClockNow.{ClockNow}
 use Rattle.tree_step.specs.Cells.{cell_in}
-use Rattle.tree_step.specs.Frames.{told_elapsed}
+use Rattle.tree_step.specs.Frames.{shown_elapsed}
 use Rattle.tree_step.specs.Starts.{Sight}
 
 -- the word of a last value that is kept
@@ -21,17 +21,17 @@ abbrev pub kept_word : Option Cell → ℤ
 kept_word None = pos 0
 kept_word (Some cell) = rank cell.kept
 
--- the word of a value that may be told
+-- the word of a value that may be shown
 abbrev pub value_word : Option Value → ℤ
 value_word None = pos 0
 value_word (Some v) = rank v
 
--- a clock that is told, where it ticks
+-- a clock that is shown, where it ticks
 abbrev pub ticking_in : Option ClockNow → Option ClockNow
 ticking_in None = None
 ticking_in (Some clock) = if clock.ticks then Some clock else None
 
--- a word that is told of a clock where it ticks
+-- a word that is shown of a clock where it ticks
 abbrev pub clock_word : (ClockNow → ℤ) → Option ClockNow → ℤ
 clock_word word None = pos 0
 clock_word word (Some clock) = word clock
@@ -41,7 +41,7 @@ first_word clock = bit clock.first
 
 -- an interval so many times, and 1 where it does not fit
 abbrev pub times_of : ℕ → ClockNow → Result ℤ Fail
-times_of times clock = fitted (whole_of (length_of (told_elapsed clock.first clock.interval)) times)
+times_of times clock = fitted (whole_of (length_of (shown_elapsed clock.first clock.interval)) times)
 
 abbrev pub whole_word : Result ℤ Fail → ℤ
 whole_word (Ok z) = z
@@ -64,7 +64,7 @@ key_word sight cells (key.Unfit place times) = clock_word (λ clock. unfit_word 
 
 -- the interval of a clock that ticks can be measured
 abbrev pub IsMeasuredClock : ClockNow → Type 0
-IsMeasuredClock clock = clock.ticks ≡ true → IsMeasurable (told_elapsed clock.first clock.interval)
+IsMeasuredClock clock = clock.ticks ≡ true → IsMeasurable (shown_elapsed clock.first clock.interval)
 
 -- the cell of each key has its word
 abbrev pub AreFilled : Sight → List Cell → List CellKey → List ℤ → Type 0

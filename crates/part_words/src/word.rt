@@ -2,11 +2,11 @@
 ghost use Rattle.std.specs.Prelude.{◌≡◌, ◌*◌, slice_get, All, IfSome};
 ghost use Rattle.rational_time.specs.Fraction.{IsFloor};
 ghost use Rattle.sync_values.specs.Arithmetic.{fitted};
-ghost use Rattle.flat_model.specs.Answers.{value_in};
+ghost use Rattle.flat_model.specs.Values.{value_in};
 ghost use Rattle.flat_model.specs.Intervals.{IsMeasurable, length_of};
 ghost use Rattle.flat_model.specs.Meaning.{whole_of};
 ghost use Rattle.tree_step.specs.Cells.{cell_in};
-ghost use Rattle.tree_step.specs.Frames.{told_elapsed};
+ghost use Rattle.tree_step.specs.Frames.{shown_elapsed};
 ghost use Rattle.tree_step.specs.Starts.{sight_of};
 ghost use Rattle.part_words.specs.Words.{kept_word, value_word, ticking_in, times_of, first_word, whole_word, unfit_word, clock_word, key_word, IsMeasuredClock};
 
@@ -47,9 +47,9 @@ fn word_last(values: &[Value], name: u32) -> i64
     }
 }
 
-/// The interval that is told of a clock: that of a first tick is nothing.
+/// The interval that is shown of a clock: that of a first tick is nothing.
 fn elapsed(clock: ClockNow) -> Elapsed
-    ensures { result ≡ told_elapsed clock.first clock.interval }
+    ensures { result ≡ shown_elapsed clock.first clock.interval }
 {
     match clock.interval {
         Elapsed::Period(period) => Elapsed::Period(period),
@@ -95,7 +95,7 @@ fn word_first(clock: ClockNow) -> i64
 
 /// The word of an interval so many times, 0 where it does not fit.
 fn word_whole(clock: ClockNow, times: u32) -> i64
-    requires { IsMeasurable (told_elapsed clock.first clock.interval) }
+    requires { IsMeasurable (shown_elapsed clock.first clock.interval) }
     ensures { result ≡ whole_word (times_of times clock) }
 {
     interval_times(elapsed(clock), times).unwrap_or(0)
@@ -103,7 +103,7 @@ fn word_whole(clock: ClockNow, times: u32) -> i64
 
 /// 1 where an interval so many times does not fit, else 0.
 fn word_unfit(clock: ClockNow, times: u32) -> i64
-    requires { IsMeasurable (told_elapsed clock.first clock.interval) }
+    requires { IsMeasurable (shown_elapsed clock.first clock.interval) }
     ensures { result ≡ unfit_word (times_of times clock) }
 {
     match interval_times(elapsed(clock), times) {
@@ -112,11 +112,11 @@ fn word_unfit(clock: ClockNow, times: u32) -> i64
     }
 }
 
-/// What is told of the clock in a place, where it ticks.
+/// What is shown of the clock in a place, where it ticks.
 fn ticking_at(clocks: &[ClockNow], place: u32) -> Option<ClockNow>
     requires { All IsMeasuredClock clocks.now }
     ensures told { result ≡ ticking_in (slice_get clocks.now place) }
-    ensures measured { IfSome result (λ clock. IsMeasurable (told_elapsed clock.first clock.interval)) }
+    ensures measured { IfSome result (λ clock. IsMeasurable (shown_elapsed clock.first clock.interval)) }
 {
     match clocks.get(place as usize) {
         Some(clock) => { if clock.ticks { Some(*clock) } else { None } }

@@ -30,11 +30,11 @@ use Rattle.partition_step.specs.declared.part.Outcome.{Outcome}
 use Rattle.partition_step.specs.declared.part.Outcome.TheVariants.{Stepped, Failed}
 use Rattle.partition_step.specs.declared.part.Part.{Part}
 use Rattle.partition_step.specs.Parts.{IsLaid, IsPartOf, IsTickedAt, KeepsTick, StandsFor, names_of, numbers_of, clocks_of}
-use Rattle.partition_step.specs.Steps.{Telling, IsStepStart, failing_in, GoesOnWith, HasStepped}
+use Rattle.partition_step.specs.Steps.{Showing, IsStepStart, failing_in, GoesOnWith, HasStepped}
 use Rattle.part_code.specs.Coded.{IsCodeOf}
 use Rattle.partition_step.specs.private.Coding.{IsSameOption}
-use Rattle.partition_step.specs.private.Stepping.{told_at, begun_at, kept_cell, ticked_class, ticked_from, ticked_at}
-use Rattle.partition_step.specs.private.Writing.{IsWritten}
+use Rattle.partition_step.specs.private.Stepping.{shown_at, begun_at, kept_cell, ticked_class, ticked_from, ticked_at}
+use Rattle.partition_step.specs.Writing.{IsWritten}
 use Rattle.partition_step.proofs.SameCode.{same_option}
 use Rattle.partition_step.proofs.Intervals.{rests_at_initial}
 use Rattle.partition_step.proofs.Lists.{lists_same, none_past, some_at, at_map, map_kept, written_none, written_at, written_back}
@@ -89,14 +89,14 @@ kind_kept : (moment : Moment) (clocks : List ClockNow) (j : ℕ) (kept : ClassKe
 kind_kept Initial clocks j kept = refl
 kind_kept (At at) clocks j kept = kind_from (slice_get clocks j) at kept
 
-module _ (s : Setting) (uses before own after : List Use) (partition : ℕ) (S : Assignment) (m : ℕ) (base : Row) (telling : Telling) (part : Part) (start : IsStepStart s uses before own after partition S m base telling part)
-    (clocks : List ClockNow) (tells : IsWritten (told_at telling.ticks telling.moment part.classes.items) part.clocks.items clocks)
-    (cells : List Cell) (begins : IsWritten (begun_at telling.answers part.classes.items clocks part.entries) part.cells.items cells)
-    (taken : List Cell) (result : Option EquationFailing) (long : length taken ≡ length cells) (has : HasTaken s uses S m base (sight s uses before own after partition S m base telling part start clocks tells cells begins) part.entries cells taken result) where
+module _ (s : Setting) (uses before own after : List Use) (partition : ℕ) (S : Assignment) (m : ℕ) (base : Row) (showing : Showing) (part : Part) (start : IsStepStart s uses before own after partition S m base showing part)
+    (clocks : List ClockNow) (tells : IsWritten (shown_at showing.ticks showing.moment part.classes.items) part.clocks.items clocks)
+    (cells : List Cell) (begins : IsWritten (begun_at showing.answers part.classes.items clocks part.entries) part.cells.items cells)
+    (taken : List Cell) (result : Option EquationFailing) (long : length taken ≡ length cells) (has : HasTaken s uses S m base (sight s uses before own after partition S m base showing part start clocks tells cells begins) part.entries cells taken result) where
   abbrev row : Row
   row = has.own
 
-  abbrev laid : IsLaid s own telling.places part.entries (names_of part.cells.items) (numbers_of part.classes.items) (clocks_of part.classes.items)
+  abbrev laid : IsLaid s own showing.places part.entries (names_of part.cells.items) (numbers_of part.classes.items) (clocks_of part.classes.items)
   laid = start.part_of.laid
 
   -- a cell once the uses are taken
@@ -110,7 +110,7 @@ module _ (s : Setting) (uses before own after : List Use) (partition : ℕ) (S :
 
   module _ (i : ℕ) (old : Cell) (old_found : slice_get part.cells.items i ≡ Some old) where
     abbrev of_cell : (e : Entry) × (slice_get part.entries i ≡ Some e) × (old.name ≡ e.name)
-    of_cell = entry_of_cell s own telling.places part.entries part.cells.items part.classes.items laid i old old_found
+    of_cell = entry_of_cell s own showing.places part.entries part.cells.items part.classes.items laid i old old_found
 
     abbrev e : Entry
     e = of_cell.0
@@ -118,29 +118,29 @@ module _ (s : Setting) (uses before own after : List Use) (partition : ℕ) (S :
     abbrev among : IsAmong e part.entries
     among = at_among part.entries i e of_cell.1
 
-    abbrev was : CellOf s own telling.places part.entries part.cells.items part.classes.items laid e
-    was = old_cell s uses before own after partition S m base telling part start clocks tells cells begins e among
+    abbrev was : CellOf s own showing.places part.entries part.cells.items part.classes.items laid e
+    was = old_cell s uses before own after partition S m base showing part start clocks tells cells begins e among
 
     abbrev begun_cell : Cell
-    begun_cell = new_cell s uses before own after partition S m base telling part start clocks tells cells begins e among
+    begun_cell = new_cell s uses before own after partition S m base showing part start clocks tells cells begins e among
 
-    placed_here : slice_get telling.places e.name ≡ Some i
+    placed_here : slice_get showing.places e.name ≡ Some i
     placed_here = laid.placed i e.name (at_map (λ c. c.name) part.cells.items i old old_found ∙ ap Some of_cell.2)
 
     cell_is : was.cell ≡ old
     cell_is = same_Some was.cell old (sym was.found ∙ ap (slice_get part.cells.items) (same_Some was.place i (sym was.placed ∙ placed_here)) ∙ old_found)
 
-    same : Same begun_cell (cell_in telling.places taken e.name)
-    same = same_as begun_cell (cell_in telling.places taken e.name)
-        (subst (λ o. IsSameCell o (cell_in telling.places taken e.name)) (new_there s uses before own after partition S m base telling part start clocks tells cells begins e among) (has.kept e.name))
+    same : Same begun_cell (cell_in showing.places taken e.name)
+    same = same_as begun_cell (cell_in showing.places taken e.name)
+        (subst (λ o. IsSameCell o (cell_in showing.places taken e.name)) (new_there s uses before own after partition S m base showing part start clocks tells cells begins e among) (has.kept e.name))
 
     is_taken : IsTaken i old
     is_taken =
-        let at = there telling.places taken e.name same.other same.is in record {
+        let at = there showing.places taken e.name same.other same.is in record {
           new = same.other;
           found = ap (slice_get taken) (same_Some i at.place (sym placed_here ∙ at.placed)) ∙ at.found;
           named = at.named ∙ sym of_cell.2;
-          reached = subst (λ x. IsReachedBy x own) (sym of_cell.2) (own_reached s own telling.places part.entries part.cells.items part.classes.items laid e among);
+          reached = subst (λ x. IsReachedBy x own) (sym of_cell.2) (own_reached s own showing.places part.entries part.cells.items part.classes.items laid e among);
           kept = same.kept ∙ ap (λ c. c.kept) cell_is;
           now = has.holds e.name same.other same.is ∙ ap row (sym of_cell.2);
         }
@@ -163,13 +163,13 @@ module _ (s : Setting) (uses before own after : List Use) (partition : ℕ) (S :
   names_same = lists_same (names_of taken) (names_of part.cells.items) (λ i. name_at i (slice_get part.cells.items i) refl)
 
   module _ (write : ℕ → Cell → Cell) (final : List Cell) (writes : IsWritten write taken final) (names : (i : ℕ) (c : Cell) → (write i c).name ≡ c.name) (nows : (i : ℕ) (c : Cell) → (write i c).now ≡ c.now) where
-    final_holds : (x : ℕ) → IsReachedBy x own → now_in (cell_in telling.places final x) ≡ row x
+    final_holds : (x : ℕ) → IsReachedBy x own → now_in (cell_in showing.places final x) ≡ row x
     final_holds x reached =
-        let (d, there_among, is) = entry_of_reached s own telling.places part.entries part.cells.items part.classes.items laid x reached in
-        let at = old_cell s uses before own after partition S m base telling part start clocks tells cells begins d there_among in
+        let (d, there_among, is) = entry_of_reached s own showing.places part.entries part.cells.items part.classes.items laid x reached in
+        let at = old_cell s uses before own after partition S m base showing part start clocks tells cells begins d there_among in
         let t = is_taken at.place at.cell at.found in
         let named : at.cell.name ≡ x = at.named ∙ sym is in
-        ap now_in (own_there telling.places final at.place x (write at.place t.new) (ap (slice_get telling.places) is ∙ at.placed) (written_at write taken final at.place t.new writes t.found) (names at.place t.new ∙ t.named ∙ named))
+        ap now_in (own_there showing.places final at.place x (write at.place t.new) (ap (slice_get showing.places) is ∙ at.placed) (written_at write taken final at.place t.new writes t.found) (names at.place t.new ∙ t.named ∙ named))
         ∙ nows at.place t.new ∙ t.now ∙ ap row named
 
     final_names : names_of final ≡ names_of part.cells.items
@@ -177,21 +177,21 @@ module _ (s : Setting) (uses before own after : List Use) (partition : ℕ) (S :
 
     module _ (new : Part) (entries_are : new.entries ≡ part.entries) (cells_are : new.cells.items ≡ final) (room : length new.clocks.items ≡ length new.classes.items) (code_same : IsSameOption part.code new.code)
         (numbers : numbers_of new.classes.items ≡ numbers_of part.classes.items) (kinds : clocks_of new.classes.items ≡ clocks_of part.classes.items) where
-      part_same : IsPartOf s own telling.places new
+      part_same : IsPartOf s own showing.places new
       part_same = record {
-        laid = subst (λ es. IsLaid s own telling.places es (names_of new.cells.items) (numbers_of new.classes.items) (clocks_of new.classes.items)) (sym entries_are)
-            (subst (λ ns. IsLaid s own telling.places part.entries ns (numbers_of new.classes.items) (clocks_of new.classes.items)) (sym (ap names_of cells_are ∙ final_names))
-            (subst (λ ns. IsLaid s own telling.places part.entries (names_of part.cells.items) ns (clocks_of new.classes.items)) (sym numbers)
-            (subst (λ ks. IsLaid s own telling.places part.entries (names_of part.cells.items) (numbers_of part.classes.items) ks) (sym kinds) laid)));
+        laid = subst (λ es. IsLaid s own showing.places es (names_of new.cells.items) (numbers_of new.classes.items) (clocks_of new.classes.items)) (sym entries_are)
+            (subst (λ ns. IsLaid s own showing.places part.entries ns (numbers_of new.classes.items) (clocks_of new.classes.items)) (sym (ap names_of cells_are ∙ final_names))
+            (subst (λ ns. IsLaid s own showing.places part.entries (names_of part.cells.items) ns (clocks_of new.classes.items)) (sym numbers)
+            (subst (λ ks. IsLaid s own showing.places part.entries (names_of part.cells.items) (numbers_of part.classes.items) ks) (sym kinds) laid)));
         room = room;
         coded = subst (λ es. IfSome new.code (IsCodeOf s.model.equations s.model.names es)) (sym entries_are) (same_option s.model.equations s.model.names part.entries part.code new.code code_same start.part_of.coded);
       }
 
-      stepped_with : (outcome : Outcome) → failing_in outcome ≡ result → (outcome ≡ Stepped → (T : Assignment) → GoesOnWith s own S m row telling T → StandsFor s T (suc m) new) → HasStepped s uses own S m base telling new outcome
+      stepped_with : (outcome : Outcome) → failing_in outcome ≡ result → (outcome ≡ Stepped → (T : Assignment) → GoesOnWith s own S m row showing T → StandsFor s T (suc m) new) → HasStepped s uses own S m base showing new outcome
       stepped_with outcome told keeps = record {
         row = row;
         taken = subst (λ us. AreTaken s S m us base row) laid.uses_are has.taken;
-        holds = λ x reached. ap (λ cs. now_in (cell_in telling.places cs x)) cells_are ∙ final_holds x reached;
+        holds = λ x reached. ap (λ cs. now_in (cell_in showing.places cs x)) cells_are ∙ final_holds x reached;
         told = subst (λ us. IsLeast (FailsAmong s uses S m us row) (failing_in outcome)) laid.uses_are (subst (IsLeast (FailsAmong s uses S m (uses_of part.entries) row)) (sym told) has.told);
         part_of = part_same;
         keeps = keeps;
@@ -200,7 +200,7 @@ module _ (s : Setting) (uses before own after : List Use) (partition : ℕ) (S :
   -- ---- with a failure
 
   pub fails : (new : Part) (failing : EquationFailing) → IsSameOption part.code new.code → result ≡ Some failing → new.entries ≡ part.entries → new.cells.items ≡ taken → new.classes.items ≡ part.classes.items → length new.clocks.items ≡ length part.clocks.items
-      → HasStepped s uses own S m base telling new (Failed failing)
+      → HasStepped s uses own S m base showing new (Failed failing)
   fails new failing code_same told entries_are cells_are classes_are long_clocks =
       stepped_with (λ i c. c) taken (written_none (λ i c. c) taken (λ i c. refl)) (λ i c. refl) (λ i c. refl) new entries_are cells_are (long_clocks ∙ start.part_of.room ∙ sym (ap length classes_are)) code_same (ap numbers_of classes_are) (ap clocks_of classes_are)
       (Failed failing) (sym told) (λ same. absurd cc)
@@ -210,10 +210,10 @@ module _ (s : Setting) (uses before own after : List Use) (partition : ℕ) (S :
   name_of : (i : ℕ) (old : Cell) → slice_get part.cells.items i ≡ Some old → (name : FlatName) × (slice_get s.model.names old.name ≡ Some name) × (name.kind ≢ kind.Clock)
   name_of i old found =
       let e = (of_cell i old found).0 in
-      let facts = use_facts s uses before own after partition start.piece (use_of e) (own_among s own telling.places part.entries part.cells.items part.classes.items laid e (among i old found)) in
+      let facts = use_facts s uses before own after partition start.piece (use_of e) (own_among s own showing.places part.entries part.cells.items part.classes.items laid e (among i old found)) in
       (facts.name, ap (slice_get s.model.names) (of_cell i old found).2 ∙ facts.name_found, facts.valued)
 
-  module _ (T : Assignment) (on : GoesOnWith s own S m row telling T) where
+  module _ (T : Assignment) (on : GoesOnWith s own S m row showing T) where
     value_next : (i : ℕ) (old : Cell) → slice_get part.cells.items i ≡ Some old → (b : Bool) → name_ticks s T old.name m ≡ b
         → previous_value (name_ticks s T old.name) (T old.name) (start_of s old.name) (suc m) ≡ Some (unwrap_or (row old.name) old.kept)
     value_next i old found true ticks =
@@ -237,30 +237,30 @@ module _ (s : Setting) (uses before own after : List Use) (partition : ℕ) (S :
         let kept : cell.kept ≡ unwrap_or (row old.name) old.kept = ap (λ c. c.kept) written ∙ ap (λ c. unwrap_or c.now c.kept) (sym same) ∙ ap₂ (λ o v. unwrap_or o v) t.now t.kept in
         subst (λ x. previous_value (name_ticks s T x) (T x) (start_of s x) (suc m) ≡ Some cell.kept) (sym named) (value_next i old old_found (name_ticks s T old.name m) refl ∙ ap Some (sym kept))
 
-    -- a class that is told to tick, or not
-    tick_kept : (at : Ratio) → telling.moment ≡ At at → (kept : ClassKept) → KeepsTick s S m kept → (b : Bool) → telling.ticks kept.class ≡ b → KeepsTick s T (suc m) (ticked_class b at kept)
+    -- a class that is shown to tick, or not
+    tick_kept : (at : Ratio) → showing.moment ≡ At at → (kept : ClassKept) → KeepsTick s S m kept → (b : Bool) → showing.ticks kept.class ≡ b → KeepsTick s T (suc m) (ticked_class b at kept)
     tick_kept at moment kept keeps true ticks =
-        subst (λ o. IsTickedAt s o (Some at)) (sym (ap (λ b. if b then Some m else tick_before (class_ticks s T (Some kept.class)) m) (sym (on.ticks kept.class) ∙ ticks))) (start.told.here ∙ ap Some moment)
+        subst (λ o. IsTickedAt s o (Some at)) (sym (ap (λ b. if b then Some m else tick_before (class_ticks s T (Some kept.class)) m) (sym (on.ticks kept.class) ∙ ticks))) (start.shown.here ∙ ap Some moment)
     tick_kept at moment kept keeps false rests = tick_rests s S T m on.agrees kept (sym (on.ticks kept.class) ∙ rests) keeps
 
-    ticked_is : (at : Ratio) (j : ℕ) (kept : ClassKept) → slice_get part.classes.items j ≡ Some kept → ticked_at (At at) clocks j kept ≡ ticked_class (telling.ticks kept.class) at kept
-    ticked_is at j kept found = ap (λ o. ticked_from at o kept) (clock_told s uses before own after partition S m base telling part start clocks tells cells begins j kept found).1
+    ticked_is : (at : Ratio) (j : ℕ) (kept : ClassKept) → slice_get part.classes.items j ≡ Some kept → ticked_at (At at) clocks j kept ≡ ticked_class (showing.ticks kept.class) at kept
+    ticked_is at j kept found = ap (λ o. ticked_from at o kept) (clock_told s uses before own after partition S m base showing part start clocks tells cells begins j kept found).1
 
-    tick_next : (moment : Moment) → telling.moment ≡ moment → (j : ℕ) (kept : ClassKept) → slice_get part.classes.items j ≡ Some kept → KeepsTick s T (suc m) (ticked_at moment clocks j kept)
-    tick_next Initial moment j kept found = tick_rests s S T m on.agrees kept (rests_at_initial s T m kept.class (start.told.here ∙ ap Some moment)) (start.stands.ticks j kept found)
-    tick_next (At at) moment j kept found = subst (KeepsTick s T (suc m)) (sym (ticked_is at j kept found)) (tick_kept at moment kept (start.stands.ticks j kept found) (telling.ticks kept.class) refl)
+    tick_next : (moment : Moment) → showing.moment ≡ moment → (j : ℕ) (kept : ClassKept) → slice_get part.classes.items j ≡ Some kept → KeepsTick s T (suc m) (ticked_at moment clocks j kept)
+    tick_next Initial moment j kept found = tick_rests s S T m on.agrees kept (rests_at_initial s T m kept.class (start.shown.here ∙ ap Some moment)) (start.stands.ticks j kept found)
+    tick_next (At at) moment j kept found = subst (KeepsTick s T (suc m)) (sym (ticked_is at j kept found)) (tick_kept at moment kept (start.stands.ticks j kept found) (showing.ticks kept.class) refl)
 
-    class_kept : (noted : List ClassKept) → IsWritten (ticked_at telling.moment clocks) part.classes.items noted → (j : ℕ) (kept : ClassKept) → slice_get noted j ≡ Some kept → KeepsTick s T (suc m) kept
+    class_kept : (noted : List ClassKept) → IsWritten (ticked_at showing.moment clocks) part.classes.items noted → (j : ℕ) (kept : ClassKept) → slice_get noted j ≡ Some kept → KeepsTick s T (suc m) kept
     class_kept noted notes j kept found =
-        let (was, was_found, is) = written_back (ticked_at telling.moment clocks) part.classes.items noted j kept notes found in
-        subst (KeepsTick s T (suc m)) (sym is) (tick_next telling.moment refl j was was_found)
+        let (was, was_found, is) = written_back (ticked_at showing.moment clocks) part.classes.items noted j kept notes found in
+        subst (KeepsTick s T (suc m)) (sym is) (tick_next showing.moment refl j was was_found)
 
-  pub steps : (new : Part) (final : List Cell) → IsSameOption part.code new.code → IsWritten kept_cell taken final → (noted : List ClassKept) → IsWritten (ticked_at telling.moment clocks) part.classes.items noted
-      → result ≡ None → new.entries ≡ part.entries → new.cells.items ≡ final → new.classes.items ≡ noted → length new.clocks.items ≡ length part.clocks.items → HasStepped s uses own S m base telling new Stepped
+  pub steps : (new : Part) (final : List Cell) → IsSameOption part.code new.code → IsWritten kept_cell taken final → (noted : List ClassKept) → IsWritten (ticked_at showing.moment clocks) part.classes.items noted
+      → result ≡ None → new.entries ≡ part.entries → new.cells.items ≡ final → new.classes.items ≡ noted → length new.clocks.items ≡ length part.clocks.items → HasStepped s uses own S m base showing new Stepped
   steps new final code_same keeps noted notes told entries_are cells_are classes_are long_clocks =
       stepped_with kept_cell final keeps (λ i c. refl) (λ i c. refl) new entries_are cells_are (long_clocks ∙ start.part_of.room ∙ sym notes.size ∙ sym (ap length classes_are)) code_same
-      (ap numbers_of classes_are ∙ map_kept (λ k. k.class) (ticked_at telling.moment clocks) part.classes.items noted notes (λ j k found. number_kept telling.moment clocks j k))
-      (ap clocks_of classes_are ∙ map_kept (λ k. k.clock) (ticked_at telling.moment clocks) part.classes.items noted notes (λ j k found. kind_kept telling.moment clocks j k))
+      (ap numbers_of classes_are ∙ map_kept (λ k. k.class) (ticked_at showing.moment clocks) part.classes.items noted notes (λ j k found. number_kept showing.moment clocks j k))
+      (ap clocks_of classes_are ∙ map_kept (λ k. k.clock) (ticked_at showing.moment clocks) part.classes.items noted notes (λ j k found. kind_kept showing.moment clocks j k))
       Stepped (sym told) (λ same T on. record {
         values = λ i cell found. value_kept T on final keeps i cell (ap (λ cs. slice_get cs i) (sym cells_are) ∙ found);
         ticks = λ j kept found. class_kept T on noted notes j kept (ap (λ ks. slice_get ks j) (sym classes_are) ∙ found);

@@ -1,4 +1,4 @@
--- What is told of a class at a moment is so.
+-- What is shown of a class at a moment is so.
 use Rattle.std.proofs.Common.{◌≡◌, refl, ap, ap₂, ◌∙◌, sym, subst, ℕ, zero, suc, ◌<◌, Bool, true, false, List, [], ◌∷◌, Option, Some, None, is_none, slice_get, arith}
 use Rattle.std.proofs.lemmas.Bool.{false≢true}
 use Rattle.std.proofs.lemmas.Option.{none-some, same_Some}
@@ -15,7 +15,7 @@ use Rattle.flat_model.specs.Intervals.{IsMeasurable}
 use Rattle.flat_model.specs.Moments.{IsRising, moment_at}
 use Rattle.flat_model.specs.Setting.{Setting, class_ticks, ticks_in, clock_ticks, time_between, since, interval_at}
 use Rattle.flat_model.proofs.Agreement.{tick_before_below}
-use Rattle.tree_step.specs.Frames.{told_elapsed, told_length}
+use Rattle.tree_step.specs.Frames.{shown_elapsed, shown_length}
 use Rattle.partition_step.specs.Parts.{IsTickedAt}
 use Rattle.partition_step.specs.Steps.{AreMeasured}
 use Rattle.partition_step.specs.private.Stepping.{elapsed_at}
@@ -77,7 +77,7 @@ first_is s (Some k) None keeps = absurd keeps
 first_is s (Some k) (Some t) keeps = refl
 
 module _ (s : Setting) (m : ℕ) (at : Ratio) (here : moment_at s.instants m ≡ Some (At at)) (ticks : ℕ → Bool) (other : Elapsed) where
-  interval_by : (o : Option ℕ) → tick_before ticks m ≡ o → (ticked : Option Ratio) → IsTickedAt s o ticked → (clock : Clock) → told_length (is_none ticked) (elapsed_at clock ticked (At at) other) ≡ interval_at s ticks m (Some clock)
+  interval_by : (o : Option ℕ) → tick_before ticks m ≡ o → (ticked : Option Ratio) → IsTickedAt s o ticked → (clock : Clock) → shown_length (is_none ticked) (elapsed_at clock ticked (At at) other) ≡ interval_at s ticks m (Some clock)
   interval_by None none None keeps (Periodic period start) = refl
   interval_by None none None keeps (Event site factor shift) = ap (since s m) (sym none)
   interval_by None none (Some t) keeps clock = absurd keeps
@@ -86,10 +86,10 @@ module _ (s : Setting) (m : ℕ) (at : Ratio) (here : moment_at s.instants m ≡
   interval_by (Some k) some (Some t) keeps (Event site factor shift) = ap₂ time_between (sym keeps) (sym here) ∙ ap (since s m) (sym some)
 
   -- its interval
-  pub interval_is : (ticked : Option Ratio) → IsTickedAt s (tick_before ticks m) ticked → (clock : Clock) → told_length (is_none ticked) (elapsed_at clock ticked (At at) other) ≡ interval_at s ticks m (Some clock)
+  pub interval_is : (ticked : Option Ratio) → IsTickedAt s (tick_before ticks m) ticked → (clock : Clock) → shown_length (is_none ticked) (elapsed_at clock ticked (At at) other) ≡ interval_at s ticks m (Some clock)
   interval_is ticked keeps clock = interval_by (tick_before ticks m) refl ticked keeps clock
 
-  measured_by : AreMeasured s.instants → (o : Option ℕ) → tick_before ticks m ≡ o → (ticked : Option Ratio) → IsTickedAt s o ticked → (clock : Clock) → IsMeasurable (told_elapsed (is_none ticked) (elapsed_at clock ticked (At at) other))
+  measured_by : AreMeasured s.instants → (o : Option ℕ) → tick_before ticks m ≡ o → (ticked : Option Ratio) → IsTickedAt s o ticked → (clock : Clock) → IsMeasurable (shown_elapsed (is_none ticked) (elapsed_at clock ticked (At at) other))
   measured_by are None none None keeps (Periodic period start) = tt
   measured_by are None none None keeps (Event site factor shift) = (omega arith, are.range m at here, are.range m at here)
   measured_by are None none (Some t) keeps clock = absurd keeps
@@ -99,5 +99,5 @@ module _ (s : Setting) (m : ℕ) (at : Ratio) (here : moment_at s.instants m ≡
       (rising_most s.instants are.rising k m t at (tick_before_below ticks m k some) keeps here, are.range k t keeps, are.range m at here)
 
   -- which can be measured
-  pub measured_is : AreMeasured s.instants → (ticked : Option Ratio) → IsTickedAt s (tick_before ticks m) ticked → (clock : Clock) → IsMeasurable (told_elapsed (is_none ticked) (elapsed_at clock ticked (At at) other))
+  pub measured_is : AreMeasured s.instants → (ticked : Option Ratio) → IsTickedAt s (tick_before ticks m) ticked → (clock : Clock) → IsMeasurable (shown_elapsed (is_none ticked) (elapsed_at clock ticked (At at) other))
   measured_is are ticked keeps clock = measured_by are (tick_before ticks m) refl ticked keeps clock

@@ -13,7 +13,7 @@ use Rattle.tree_step.specs.declared.frame.ClockNow.{ClockNow}
 use Rattle.tree_step.specs.declared.taking.Entry.{Entry}
 use Rattle.partition_step.specs.declared.part.ClassKept.{ClassKept}
 use Rattle.partition_step.specs.private.Laying.{class_in, clock_in, new_class, entry_of, IsOpened, AreLaidOut, AreOnce}
-use Rattle.partition_step.specs.private.Stepping.{elapsed_at, told_clock, told_from, told_at}
+use Rattle.partition_step.specs.private.Stepping.{elapsed_at, shown_clock, shown_from, shown_at}
 use Rattle.partition_step.proofs.Lists.{WrittenTo, written_next, set_same, set_other}
 
 -- ---- lists that grow
@@ -50,15 +50,15 @@ map_whole f [] (suc i) le = refl
 map_whole f (y ∷ xs) zero le = absurd (omega (arith, le))
 map_whole f (y ∷ xs) (suc i) le = ap (λ zs. f y ∷ zs) (map_whole f xs i (omega (arith, le)))
 
--- ---- what is told of one more class
+-- ---- what is shown of one more class
 
-pub told_next : (ticks : ℕ → Bool) (moment : Moment) (classes : List ClassKept) (old now : List ClockNow) (j : ℕ) (kept : ClassKept) (d : ClockNow) (t f : Bool) (i : Elapsed) → WrittenTo (told_at ticks moment classes) old j now → j < length now
+pub told_next : (ticks : ℕ → Bool) (moment : Moment) (classes : List ClassKept) (old now : List ClockNow) (j : ℕ) (kept : ClassKept) (d : ClockNow) (t f : Bool) (i : Elapsed) → WrittenTo (shown_at ticks moment classes) old j now → j < length now
     → slice_get classes j ≡ Some kept → d ≡ get_or now j d → t ≡ ticks kept.class → f ≡ is_none kept.ticked → i ≡ elapsed_at kept.clock kept.ticked moment d.interval
-    → WrittenTo (told_at ticks moment classes) old (j + 1) (slice_set now j (record { ticks = t; first = f; interval = i }))
+    → WrittenTo (shown_at ticks moment classes) old (j + 1) (slice_set now j (record { ticks = t; first = f; interval = i }))
 told_next ticks moment classes old now j kept d t f i written lt found d_is t_is f_is i_is =
-    let told : record { ticks = t; first = f; interval = i } ≡ told_clock ticks moment kept d = λ k. record { ticks = t_is k; first = f_is k; interval = i_is k } in
-    written_next (told_at ticks moment classes) old now j (record { ticks = t; first = f; interval = i }) d written lt
-    (told ∙ ap (told_clock ticks moment kept) d_is ∙ ap (λ o. told_from ticks moment o (get_or now j d)) (sym found))
+    let told : record { ticks = t; first = f; interval = i } ≡ shown_clock ticks moment kept d = λ k. record { ticks = t_is k; first = f_is k; interval = i_is k } in
+    written_next (shown_at ticks moment classes) old now j (record { ticks = t; first = f; interval = i }) d written lt
+    (told ∙ ap (shown_clock ticks moment kept) d_is ∙ ap (λ o. shown_from ticks moment o (get_or now j d)) (sym found))
 
 -- ---- one more use
 

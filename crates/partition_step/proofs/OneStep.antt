@@ -42,7 +42,7 @@ outcome_same (Failed f) Stepped same = absurd (none-some f (sym same))
 outcome_same (Failed f) (Failed g) same = ap Failed (same_Some f g same)
 
 pub one_step : OneStepLaw
-one_step s uses own S m base telling are a b one two step other =
+one_step s uses own S m base showing are a b one two step other =
     let rows : step.row ≡ other.row = fun_ext (one_last s S m own base step.row other.row step.taken other.taken) in (
       outcome_same one two (one_told s uses are S m own other.row (failing_in one) (failing_in two) (subst (λ r. IsLeast (FailsAmong s uses S m own r) (failing_in one)) rows step.told) other.told),
       λ x reached. step.holds x reached ∙ ap (λ r. r x) rows ∙ sym (other.holds x reached),

@@ -7,7 +7,7 @@ use Rattle.flat_model.specs.declared.clock.Clock.TheVariants.{Periodic, Event}
 use Rattle.flat_model.specs.declared.equation.Equation.{Equation}
 use Rattle.flat_model.specs.declared.equation.Equation.TheVariants.{Valued, Clocks}
 use Rattle.flat_model.specs.declared.expression.Expr.{Expr}
-use Rattle.flat_model.specs.Answers.{truth_in}
+use Rattle.flat_model.specs.Values.{truth_in}
 use Rattle.flat_model.specs.Asks.{AsksFor, OfNow, OfLast, OfPrevious}
 use Rattle.flat_model.specs.Assignment.{Assignment, tick_before, previous_value}
 use Rattle.flat_model.specs.Given.{Row, with_row, IsKnownOf}
@@ -32,14 +32,14 @@ use Rattle.tree_step.specs.declared.cell.Cell.{Cell}
 use Rattle.tree_step.specs.declared.frame.ClockNow.{ClockNow}
 use Rattle.tree_step.specs.declared.taking.Entry.{Entry}
 use Rattle.tree_step.specs.Cells.{cell_in}
-use Rattle.tree_step.specs.Frames.{told_elapsed, told_length}
-use Rattle.tree_step.specs.Starts.{Sight, use_of, uses_of, IsAmong, HasCell, KeepsLast, StandsAs, IsClockTold, IsSideSeen, AreSidesSeen, IsEntry, AreSitesApart, IsStart}
+use Rattle.tree_step.specs.Frames.{shown_elapsed, shown_length}
+use Rattle.tree_step.specs.Starts.{Sight, use_of, uses_of, IsAmong, HasCell, KeepsLast, StandsAs, IsClockShown, IsSideSeen, AreSidesSeen, IsEntry, AreSitesApart, IsStart}
 use Rattle.partition_step.specs.declared.part.ClassKept.{ClassKept}
 use Rattle.partition_step.specs.declared.part.Part.{Part}
 use Rattle.partition_step.specs.Parts.{IsLaid, KeepsTick, names_of, numbers_of, clocks_of}
-use Rattle.partition_step.specs.Steps.{Telling, IsSampleTold, AreSamplesTold, IsStepStart}
-use Rattle.partition_step.specs.private.Stepping.{elapsed_at, told_clock, told_from, told_at, standing_by, standing_of, standing_in, standing_at, begun, begun_at}
-use Rattle.partition_step.specs.private.Writing.{IsWritten}
+use Rattle.partition_step.specs.Steps.{Showing, IsSampleShown, AreSamplesShown, IsStepStart}
+use Rattle.partition_step.specs.private.Stepping.{elapsed_at, shown_clock, shown_from, shown_at, standing_by, standing_of, standing_in, standing_at, begun, begun_at}
+use Rattle.partition_step.specs.Writing.{IsWritten}
 use Rattle.partition_step.proofs.Intervals.{instant_of, first_is, interval_is, measured_is}
 use Rattle.partition_step.proofs.Lists.{some_at, at_map, written_at, written_back}
 use Rattle.partition_step.proofs.Placing.{own_there, there, at_among, own_among, own_reached, entry_of_reached, ClassOf, class_of, CellOf, cell_of, entry_of_cell}
@@ -53,9 +53,9 @@ is_truth (Is (value.Int z)) b e = absurd (none-some b e)
 is_truth (Fails kind) b e = absurd (none-some b e)
 is_truth Absent b e = absurd (none-some b e)
 
-module _ (s : Setting) (uses before own after : List Use) (partition : ℕ) (S : Assignment) (m : ℕ) (base : Row) (telling : Telling) (part : Part) (start : IsStepStart s uses before own after partition S m base telling part)
-    (clocks : List ClockNow) (tells : IsWritten (told_at telling.ticks telling.moment part.classes.items) part.clocks.items clocks)
-    (cells : List Cell) (begins : IsWritten (begun_at telling.answers part.classes.items clocks part.entries) part.cells.items cells) where
+module _ (s : Setting) (uses before own after : List Use) (partition : ℕ) (S : Assignment) (m : ℕ) (base : Row) (showing : Showing) (part : Part) (start : IsStepStart s uses before own after partition S m base showing part)
+    (clocks : List ClockNow) (tells : IsWritten (shown_at showing.ticks showing.moment part.classes.items) part.clocks.items clocks)
+    (cells : List Cell) (begins : IsWritten (begun_at showing.answers part.classes.items clocks part.entries) part.cells.items cells) where
   abbrev B : Assignment
   B = with_row S m base
 
@@ -63,32 +63,32 @@ module _ (s : Setting) (uses before own after : List Use) (partition : ℕ) (S :
   classes = part.classes.items
 
   abbrev pub sight : Sight
-  sight = record { equations = telling.equations; places = telling.places; left = telling.left; clocks = clocks }
+  sight = record { equations = showing.equations; places = showing.places; left = showing.left; clocks = clocks }
 
-  abbrev laid : IsLaid s own telling.places part.entries (names_of part.cells.items) (numbers_of part.classes.items) (clocks_of part.classes.items)
+  abbrev laid : IsLaid s own showing.places part.entries (names_of part.cells.items) (numbers_of part.classes.items) (clocks_of part.classes.items)
   laid = start.part_of.laid
 
   abbrev Class : Entry → Type 0
-  Class e = ClassOf s own telling.places part.entries part.cells.items classes laid e
+  Class e = ClassOf s own showing.places part.entries part.cells.items classes laid e
 
   abbrev OldCell : Entry → Type 0
-  OldCell e = CellOf s own telling.places part.entries part.cells.items classes laid e
+  OldCell e = CellOf s own showing.places part.entries part.cells.items classes laid e
 
   class_at : (e : Entry) → IsAmong e part.entries → Class e
-  class_at = class_of s own telling.places part.entries part.cells.items classes laid
+  class_at = class_of s own showing.places part.entries part.cells.items classes laid
 
   pub old_cell : (e : Entry) → IsAmong e part.entries → OldCell e
-  old_cell = cell_of s own telling.places part.entries part.cells.items classes laid
+  old_cell = cell_of s own showing.places part.entries part.cells.items classes laid
 
   in_partition : (e : Entry) → IsAmong e part.entries → partition_of s (class_of_equation s e.equation) ≡ Some partition
-  in_partition e among = start.piece.of (use_of e) (own_among s own telling.places part.entries part.cells.items classes laid e among)
+  in_partition e among = start.piece.of (use_of e) (own_among s own showing.places part.entries part.cells.items classes laid e among)
 
-  -- ---- what is told of a class
+  -- ---- what is shown of a class
 
-  pub clock_told : (j : ℕ) (kept : ClassKept) → slice_get classes j ≡ Some kept → (old : ClockNow) × (slice_get clocks j ≡ Some (told_clock telling.ticks telling.moment kept old))
+  pub clock_told : (j : ℕ) (kept : ClassKept) → slice_get classes j ≡ Some kept → (old : ClockNow) × (slice_get clocks j ≡ Some (shown_clock showing.ticks showing.moment kept old))
   clock_told j kept found =
       let (old, old_found) = some_at part.clocks.items j (let within = slice_get_within classes j kept found in let room = start.part_of.room in omega (arith, within, room)) in
-      (old, written_at (told_at telling.ticks telling.moment classes) part.clocks.items clocks j old tells old_found ∙ ap (λ o. Some (told_from telling.ticks telling.moment o old)) found)
+      (old, written_at (shown_at showing.ticks showing.moment classes) part.clocks.items clocks j old tells old_found ∙ ap (λ o. Some (shown_from showing.ticks showing.moment o old)) found)
 
   module _ (e : Entry) (among : IsAmong e part.entries) where
     abbrev of : Class e
@@ -97,11 +97,11 @@ module _ (s : Setting) (uses before own after : List Use) (partition : ℕ) (S :
     abbrev c : ℕ
     c = of.kept.class
 
-    old_clock : (old : ClockNow) × (slice_get clocks e.clock ≡ Some (told_clock telling.ticks telling.moment of.kept old))
+    old_clock : (old : ClockNow) × (slice_get clocks e.clock ≡ Some (shown_clock showing.ticks showing.moment of.kept old))
     old_clock = clock_told e.clock of.kept of.found
 
     abbrev clock : ClockNow
-    clock = told_clock telling.ticks telling.moment of.kept old_clock.0
+    clock = shown_clock showing.ticks showing.moment of.kept old_clock.0
 
     clock_found : slice_get clocks e.clock ≡ Some clock
     clock_found = old_clock.1
@@ -109,44 +109,44 @@ module _ (s : Setting) (uses before own after : List Use) (partition : ℕ) (S :
     keeps : KeepsTick s S m of.kept
     keeps = start.stands.ticks e.clock of.kept of.found
 
-    told_kept : IsClockTold s S m base (Some c) clock
+    told_kept : IsClockShown s S m base (Some c) clock
     told_kept = record {
-      ticks = start.told.ticks c;
+      ticks = start.shown.ticks c;
       first = λ d is ticking. first_is s (tick_before (class_ticks s S (Some c)) m) of.kept.ticked keeps;
       interval = λ d is ticking.
-          let (at, moment) = instant_of s B m c telling.moment start.told.here (sym (start.told.ticks c) ∙ ticking) in
-          subst (λ at_moment. told_length (is_none of.kept.ticked) (elapsed_at of.kept.clock of.kept.ticked at_moment old_clock.0.interval) ≡ interval_at s (class_ticks s S (Some c)) m (clock_of s (Some c))) (sym moment)
-          (interval_is s m at (start.told.here ∙ ap Some moment) (class_ticks s S (Some c)) old_clock.0.interval of.kept.ticked keeps of.kept.clock
+          let (at, moment) = instant_of s B m c showing.moment start.shown.here (sym (start.shown.ticks c) ∙ ticking) in
+          subst (λ at_moment. shown_length (is_none of.kept.ticked) (elapsed_at of.kept.clock of.kept.ticked at_moment old_clock.0.interval) ≡ interval_at s (class_ticks s S (Some c)) m (clock_of s (Some c))) (sym moment)
+          (interval_is s m at (start.shown.here ∙ ap Some moment) (class_ticks s S (Some c)) old_clock.0.interval of.kept.ticked keeps of.kept.clock
           ∙ ap (interval_at s (class_ticks s S (Some c)) m) (sym of.clock_is));
       measured = λ ticking.
-          let (at, moment) = instant_of s B m c telling.moment start.told.here (sym (start.told.ticks c) ∙ ticking) in
-          subst (λ at_moment. IsMeasurable (told_elapsed (is_none of.kept.ticked) (elapsed_at of.kept.clock of.kept.ticked at_moment old_clock.0.interval))) (sym moment)
-          (measured_is s m at (start.told.here ∙ ap Some moment) (class_ticks s S (Some c)) old_clock.0.interval start.measured of.kept.ticked keeps of.kept.clock);
+          let (at, moment) = instant_of s B m c showing.moment start.shown.here (sym (start.shown.ticks c) ∙ ticking) in
+          subst (λ at_moment. IsMeasurable (shown_elapsed (is_none of.kept.ticked) (elapsed_at of.kept.clock of.kept.ticked at_moment old_clock.0.interval))) (sym moment)
+          (measured_is s m at (start.shown.here ∙ ap Some moment) (class_ticks s S (Some c)) old_clock.0.interval start.measured of.kept.ticked keeps of.kept.clock);
     }
 
-    told : IsClockTold s S m base (class_of_equation s e.equation) clock
-    told = subst (λ o. IsClockTold s S m base o clock) (sym of.of_equation) told_kept
+    told : IsClockShown s S m base (class_of_equation s e.equation) clock
+    told = subst (λ o. IsClockShown s S m base o clock) (sym of.of_equation) told_kept
 
     -- how it stands
-    stands_event : (site factor shift : ℕ) → of.kept.clock ≡ Event site factor shift → class_ticks s B (Some c) m ≡ false → (o : Option Bool) → flattened (slice_get telling.answers site) ≡ o → StandsAs s B m (Some c) (standing_by o)
+    stands_event : (site factor shift : ℕ) → of.kept.clock ≡ Event site factor shift → class_ticks s B (Some c) m ≡ false → (o : Option Bool) → flattened (slice_get showing.answers site) ≡ o → StandsAs s B m (Some c) (standing_by o)
     stands_event site factor shift is rests None none = λ known.
         let (b, answers) = subst (IsKnownOf s B m) (of.clock_is ∙ ap Some is) known in
-        none-some b (sym none ∙ start.told.answers site ∙ ap truth_in answers)
+        none-some b (sym none ∙ start.shown.answers site ∙ ap truth_in answers)
     stands_event site factor shift is rests (Some b) some =
-        (subst (IsKnownOf s B m) (sym (of.clock_is ∙ ap Some is)) (b, is_truth (site_answer s B site m) b (sym (start.told.answers site) ∙ some)), rests)
+        (subst (IsKnownOf s B m) (sym (of.clock_is ∙ ap Some is)) (b, is_truth (site_answer s B site m) b (sym (start.shown.answers site) ∙ some)), rests)
 
-    stands_by : (k : Clock) → of.kept.clock ≡ k → (b : Bool) → class_ticks s B (Some c) m ≡ b → StandsAs s B m (Some c) (standing_of telling.answers b k)
+    stands_by : (k : Clock) → of.kept.clock ≡ k → (b : Bool) → class_ticks s B (Some c) m ≡ b → StandsAs s B m (Some c) (standing_of showing.answers b k)
     stands_by (Periodic period first) is true ticks = (known_where_ticks s B m (Some c) ticks, ticks)
     stands_by (Event site factor shift) is true ticks = (known_where_ticks s B m (Some c) ticks, ticks)
     stands_by (Periodic period first) is false rests = (subst (IsKnownOf s B m) (sym (of.clock_is ∙ ap Some is)) tt, rests)
-    stands_by (Event site factor shift) is false rests = stands_event site factor shift is rests (flattened (slice_get telling.answers site)) refl
+    stands_by (Event site factor shift) is false rests = stands_event site factor shift is rests (flattened (slice_get showing.answers site)) refl
 
-    standing_is : standing_at telling.answers classes clocks (Some e) ≡ standing_of telling.answers (telling.ticks c) of.kept.clock
-    standing_is = ap (λ o. standing_in telling.answers o (slice_get clocks e.clock)) of.found ∙ ap (standing_in telling.answers (Some of.kept)) clock_found
+    standing_is : standing_at showing.answers classes clocks (Some e) ≡ standing_of showing.answers (showing.ticks c) of.kept.clock
+    standing_is = ap (λ o. standing_in showing.answers o (slice_get clocks e.clock)) of.found ∙ ap (standing_in showing.answers (Some of.kept)) clock_found
 
-    stands : StandsAs s B m (class_of_name s e.name) (standing_at telling.answers classes clocks (Some e))
-    stands = subst (λ o. StandsAs s B m o (standing_at telling.answers classes clocks (Some e))) (sym of.of_name)
-        (subst (StandsAs s B m (Some c)) (sym standing_is) (stands_by of.kept.clock refl (telling.ticks c) (sym (start.told.ticks c))))
+    stands : StandsAs s B m (class_of_name s e.name) (standing_at showing.answers classes clocks (Some e))
+    stands = subst (λ o. StandsAs s B m o (standing_at showing.answers classes clocks (Some e))) (sym of.of_name)
+        (subst (StandsAs s B m (Some c)) (sym standing_is) (stands_by of.kept.clock refl (showing.ticks c) (sym (start.shown.ticks c))))
 
     -- ---- its cell
 
@@ -154,37 +154,37 @@ module _ (s : Setting) (uses before own after : List Use) (partition : ℕ) (S :
     was = old_cell e among
 
     abbrev pub new_cell : Cell
-    new_cell = begun (standing_at telling.answers classes clocks (Some e)) was.cell
+    new_cell = begun (standing_at showing.answers classes clocks (Some e)) was.cell
 
     new_found : slice_get cells was.place ≡ Some new_cell
-    new_found = written_at (begun_at telling.answers classes clocks part.entries) part.cells.items cells was.place was.cell begins was.found
-        ∙ ap (λ o. Some (begun (standing_at telling.answers classes clocks o) was.cell)) was.entry_found
+    new_found = written_at (begun_at showing.answers classes clocks part.entries) part.cells.items cells was.place was.cell begins was.found
+        ∙ ap (λ o. Some (begun (standing_at showing.answers classes clocks o) was.cell)) was.entry_found
 
-    pub new_there : cell_in telling.places cells e.name ≡ Some new_cell
-    new_there = own_there telling.places cells was.place e.name new_cell was.placed new_found was.named
+    pub new_there : cell_in showing.places cells e.name ≡ Some new_cell
+    new_there = own_there showing.places cells was.place e.name new_cell was.placed new_found was.named
 
     cell_keeps : KeepsLast s S m e.name new_cell
     cell_keeps = subst (λ x. KeepsLast s S m x was.cell) was.named (start.stands.values was.place was.cell was.found)
 
   -- ---- cells of names that are reached
 
-  has_cell : (y : ℕ) → IsReachedBy y own → HasCell telling.places cells y
+  has_cell : (y : ℕ) → IsReachedBy y own → HasCell showing.places cells y
   has_cell y reached =
-      let (e, among, is) = entry_of_reached s own telling.places part.entries part.cells.items classes laid y reached in
-      (new_cell e among, ap (cell_in telling.places cells) is ∙ new_there e among)
+      let (e, among, is) = entry_of_reached s own showing.places part.entries part.cells.items classes laid y reached in
+      (new_cell e among, ap (cell_in showing.places cells) is ∙ new_there e among)
 
-  has_kept : (y : ℕ) → IsReachedBy y own → (cell : Cell) × (cell_in telling.places cells y ≡ Some cell) × KeepsLast s S m y cell
+  has_kept : (y : ℕ) → IsReachedBy y own → (cell : Cell) × (cell_in showing.places cells y ≡ Some cell) × KeepsLast s S m y cell
   has_kept y reached =
-      let (e, among, is) = entry_of_reached s own telling.places part.entries part.cells.items classes laid y reached in
-      (new_cell e among, ap (cell_in telling.places cells) is ∙ new_there e among, subst (λ x. KeepsLast s S m x (new_cell e among)) (sym is) (cell_keeps e among))
+      let (e, among, is) = entry_of_reached s own showing.places part.entries part.cells.items classes laid y reached in
+      (new_cell e among, ap (cell_in showing.places cells) is ∙ new_there e among, subst (λ x. KeepsLast s S m x (new_cell e among)) (sym is) (cell_keeps e among))
 
-  has_last : (y : ℕ) → IsReachedBy y own → (cell : Cell) × (cell_in telling.places cells y ≡ Some cell) × KeepsLast s S m y cell × StandsAs s B m (class_of_name s y) cell.standing
+  has_last : (y : ℕ) → IsReachedBy y own → (cell : Cell) × (cell_in showing.places cells y ≡ Some cell) × KeepsLast s S m y cell × StandsAs s B m (class_of_name s y) cell.standing
   has_last y reached =
-      let (e, among, is) = entry_of_reached s own telling.places part.entries part.cells.items classes laid y reached in (
+      let (e, among, is) = entry_of_reached s own showing.places part.entries part.cells.items classes laid y reached in (
         new_cell e among,
-        ap (cell_in telling.places cells) is ∙ new_there e among,
+        ap (cell_in showing.places cells) is ∙ new_there e among,
         subst (λ x. KeepsLast s S m x (new_cell e among)) (sym is) (cell_keeps e among),
-        subst (λ x. StandsAs s B m (class_of_name s x) (standing_at telling.answers classes clocks (Some e))) (sym is) (stands e among),
+        subst (λ x. StandsAs s B m (class_of_name s x) (standing_at showing.answers classes clocks (Some e))) (sym is) (stands e among),
       )
 
   reached_here : (y : ℕ) → IsValued s y → partition_of s (class_of_name s y) ≡ Some partition → IsReachedBy y own
@@ -193,7 +193,7 @@ module _ (s : Setting) (uses before own after : List Use) (partition : ℕ) (S :
   -- ---- one side
 
   module _ (e : Entry) (among : IsAmong e part.entries) (side : Expr) (cut : IsSideClocked s e.equation side) (classed : IsSideClassed s e.equation side) (valued : (y : ℕ) → AsksFor side 0 (OfPrevious y) → IsValued s y)
-      (samples : IsSampleTold s S m telling.left side) where
+      (samples : IsSampleShown s S m showing.left side) where
     now_reached : (y : ℕ) → AsksFor side 0 (OfNow y) → IsReachedBy y own
     now_reached y asks =
         let (is, class) = classed.bare y (let same = asked_bare y side in omega (arith, asks, same)) in
@@ -219,8 +219,8 @@ module _ (s : Setting) (uses before own after : List Use) (partition : ℕ) (S :
         reached_here y (valued y asks) (ap (partition_of s) class ∙ in_partition e among)
 
     last_left : (z n : ℕ) → m ≡ n → (clock e among).ticks ≡ true → AsksFor side 1 (OfLast z)
-        → slice_get telling.left.last z ≡ previous_value (name_ticks s S z) (S z) (start_of s z) m
-    last_left z zero first ticking asks = absurd (not_yet s B (class_at e among).kept.class (subst (λ n. class_ticks s B (Some (class_at e among).kept.class) n ≡ true) first (sym (start.told.ticks (class_at e among).kept.class) ∙ ticking)))
+        → slice_get showing.left.last z ≡ previous_value (name_ticks s S z) (S z) (start_of s z) m
+    last_left z zero first ticking asks = absurd (not_yet s B (class_at e among).kept.class (subst (λ n. class_ticks s B (Some (class_at e among).kept.class) n ≡ true) first (sym (start.shown.ticks (class_at e among).kept.class) ∙ ticking)))
     last_left z (suc k) later ticking asks = samples.last z k asks later
 
     side_seen : IsSideSeen s S m base sight cells (clock e among) side
@@ -240,7 +240,7 @@ module _ (s : Setting) (uses before own after : List Use) (partition : ℕ) (S :
     sides_seen (Valued left right clause) found =
         let cut = start.piece.ordered.runs.equations e.equation (Valued left right clause) found in
         let classed = (facts s uses before own after partition start.piece).classed.sides e.equation left right clause found in
-        let samples = start.told.samples (use_of e) (Valued left right clause) (own_among s own telling.places part.entries part.cells.items classes laid e among) found in
+        let samples = start.shown.samples (use_of e) (Valued left right clause) (own_among s own showing.places part.entries part.cells.items classes laid e among) found in
         let valued = previous_valued s uses before own after partition start.piece e.equation left right clause found in (
           side_seen e among left cut.0 classed.0 (λ y asks. valued y (inl asks)) samples.0,
           side_seen e among right cut.1 classed.1 (λ y asks. valued y (inr asks)) samples.1,
@@ -261,17 +261,17 @@ module _ (s : Setting) (uses before own after : List Use) (partition : ℕ) (S :
   apart : AreSitesApart s (uses_of part.entries) part.entries
   apart e class y among asks reads reached =
       let (site, factor, shift, condition, clock_is, found, some) = reads in
-      let (d, there_among, is) = entry_of_reached s own telling.places part.entries part.cells.items classes laid y (subst (IsReachedBy y) laid.uses_are reached) in
+      let (d, there_among, is) = entry_of_reached s own showing.places part.entries part.cells.items classes laid y (subst (IsReachedBy y) laid.uses_are reached) in
       none-some (class_at d there_among).kept.class
       (sym (((facts s uses before own after partition start.piece).unclocked site condition found).names y some) ∙ ap (class_of_name s) is ∙ (class_at d there_among).of_name)
 
   -- a cell is of a name that is reached, and has no value
-  holds : (x : ℕ) (cell : Cell) → cell_in telling.places cells x ≡ Some cell → cell.now ≡ base x
+  holds : (x : ℕ) (cell : Cell) → cell_in showing.places cells x ≡ Some cell → cell.now ≡ base x
   holds x cell is =
-      let at = there telling.places cells x cell is in
-      let (was, was_found, written) = written_back (begun_at telling.answers classes clocks part.entries) part.cells.items cells at.place cell begins at.found in
-      let (e, entry_found, named) = entry_of_cell s own telling.places part.entries part.cells.items classes laid at.place was was_found in
-      let reached = own_reached s own telling.places part.entries part.cells.items classes laid e (at_among part.entries at.place e entry_found) in
+      let at = there showing.places cells x cell is in
+      let (was, was_found, written) = written_back (begun_at showing.answers classes clocks part.entries) part.cells.items cells at.place cell begins at.found in
+      let (e, entry_found, named) = entry_of_cell s own showing.places part.entries part.cells.items classes laid at.place was was_found in
+      let reached = own_reached s own showing.places part.entries part.cells.items classes laid e (at_among part.entries at.place e entry_found) in
       let same : e.name ≡ x = sym named ∙ ap (λ d. d.name) (sym written) ∙ at.named in
       ap (λ d. d.now) written ∙ sym (start.clear x (subst (λ y. IsReachedBy y own) same reached))
 
@@ -283,7 +283,7 @@ module _ (s : Setting) (uses before own after : List Use) (partition : ℕ) (S :
     sound = start.sound;
     clear = subst (λ us. IsClear us base) (sym laid.uses_are) start.clear;
     apart = apart;
-    model = start.told.model;
+    model = start.shown.model;
     holds = holds;
     each = entry_is;
   }
@@ -297,15 +297,15 @@ module _ (s : Setting) (uses before own after : List Use) (partition : ℕ) (S :
 
   kept_at : (i : ℕ) (cell : Cell) → slice_get cells i ≡ Some cell → KeepsLast s S m cell.name cell
   kept_at i cell found =
-      let (was, was_found, written) = written_back (begun_at telling.answers classes clocks part.entries) part.cells.items cells i cell begins found in
+      let (was, was_found, written) = written_back (begun_at showing.answers classes clocks part.entries) part.cells.items cells i cell begins found in
       subst (λ d. KeepsLast s S m d.name d) (sym written) (start.stands.values i was was_found)
 
-  sampled : (e : Entry) → IsAmong e part.entries → (side : Expr) → IsSideOf telling.equations e side → IsSampledBy s S m sight side
+  sampled : (e : Entry) → IsAmong e part.entries → (side : Expr) → IsSideOf showing.equations e side → IsSampledBy s S m sight side
   sampled e among side of =
-      let samples = start.told.samples (use_of e) of.equation (own_among s own telling.places part.entries part.cells.items classes laid e among) (ap (λ es. slice_get es e.equation) (sym start.told.model) ∙ of.found) in
+      let samples = start.shown.samples (use_of e) of.equation (own_among s own showing.places part.entries part.cells.items classes laid e among) (ap (λ es. slice_get es e.equation) (sym start.shown.model) ∙ of.found) in
       by_equation of.equation of.solved samples
     where
-      by_equation : (equation : Equation) → IsSolvedSide e.name equation side → AreSamplesTold s S m telling.left equation → IsSampledBy s S m sight side
+      by_equation : (equation : Equation) → IsSolvedSide e.name equation side → AreSamplesShown s S m showing.left equation → IsSampledBy s S m sight side
       by_equation (Valued left right clause) solved both = record {
         now = λ y k asks. elim (solved_asks e.name left right clause side solved 1 (OfNow y) asks) [ inl one ↦ both.0.now y k one | inr one ↦ both.1.now y k one ];
         last = λ z k asks. elim (solved_asks e.name left right clause side solved 1 (OfLast z) asks) [ inl one ↦ both.0.last z k one | inr one ↦ both.1.last z k one ];
@@ -319,25 +319,25 @@ module _ (s : Setting) (uses before own after : List Use) (partition : ℕ) (S :
     whole = λ entry used within. subst (λ us. Contains us entry) (sym laid.uses_are) (start.piece.whole entry used within);
     one_class = same_class;
     named = λ i cell found.
-        let (was, was_found, written) = written_back (begun_at telling.answers classes clocks part.entries) part.cells.items cells i cell begins found in
-        let (e, entry_found, named) = entry_of_cell s own telling.places part.entries part.cells.items classes laid i was was_found in
+        let (was, was_found, written) = written_back (begun_at showing.answers classes clocks part.entries) part.cells.items cells i cell begins found in
+        let (e, entry_found, named) = entry_of_cell s own showing.places part.entries part.cells.items classes laid i was was_found in
         (e, entry_found, ap (λ d. d.name) written ∙ named);
     placed = λ i e found. laid.placed i e.name (ap (λ ns. slice_get ns i) laid.names_are ∙ at_map (λ d. d.name) part.entries i e found);
     keeps = kept_at;
     samples = λ e side among of. sampled e among side of;
   }
 
-  -- what is told of a clock that ticks can be measured
+  -- what is shown of a clock that ticks can be measured
   clock_measured : (j : ℕ) (clock : ClockNow) → slice_get clocks j ≡ Some clock → IsMeasuredClock clock
   clock_measured j clock found ticking =
       let (kept, kept_found) = some_at classes j (let within = slice_get_within clocks j clock found in let size = tells.size in let room = start.part_of.room in omega (arith, within, size, room)) in
       let (old, is) = clock_told j kept kept_found in
-      let same : clock ≡ told_clock telling.ticks telling.moment kept old = same_Some clock (told_clock telling.ticks telling.moment kept old) (sym found ∙ is) in
-      let ticks = sym (start.told.ticks kept.class) ∙ ap (λ k. k.ticks) (sym same) ∙ ticking in
-      let (at, moment) = instant_of s B m kept.class telling.moment start.told.here ticks in
-      subst (λ k. IsMeasurable (told_elapsed k.first k.interval)) (sym same)
-      (subst (λ at_moment. IsMeasurable (told_elapsed (is_none kept.ticked) (elapsed_at kept.clock kept.ticked at_moment old.interval))) (sym moment)
-      (measured_is s m at (start.told.here ∙ ap Some moment) (class_ticks s S (Some kept.class)) old.interval start.measured kept.ticked (start.stands.ticks j kept kept_found) kept.clock))
+      let same : clock ≡ shown_clock showing.ticks showing.moment kept old = same_Some clock (shown_clock showing.ticks showing.moment kept old) (sym found ∙ is) in
+      let ticks = sym (start.shown.ticks kept.class) ∙ ap (λ k. k.ticks) (sym same) ∙ ticking in
+      let (at, moment) = instant_of s B m kept.class showing.moment start.shown.here ticks in
+      subst (λ k. IsMeasurable (shown_elapsed k.first k.interval)) (sym same)
+      (subst (λ at_moment. IsMeasurable (shown_elapsed (is_none kept.ticked) (elapsed_at kept.clock kept.ticked at_moment old.interval))) (sym moment)
+      (measured_is s m at (start.shown.here ∙ ap Some moment) (class_ticks s S (Some kept.class)) old.interval start.measured kept.ticked (start.stands.ticks j kept kept_found) kept.clock))
 
   pub all_measured : All IsMeasuredClock clocks
   all_measured = λ j d within. clock_measured j (get_or clocks j d) (slice_get-get_or clocks j d within)

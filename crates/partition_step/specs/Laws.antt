@@ -12,7 +12,7 @@ use Rattle.partition_step.specs.declared.part.ClassKept.{ClassKept}
 use Rattle.partition_step.specs.declared.part.Outcome.{Outcome}
 use Rattle.partition_step.specs.declared.part.Part.{Part}
 use Rattle.partition_step.specs.Parts.{IsPartOf, StandsFor}
-use Rattle.partition_step.specs.Steps.{Telling, HasStepped}
+use Rattle.partition_step.specs.Steps.{Showing, HasStepped}
 
 -- a part none of whose classes ticks at m stands before the next moment without a step
 abbrev pub RestsLaw : Type 0
@@ -29,6 +29,6 @@ OthersLaw = (s : Setting) (own : List Use) (places : List ℕ) (part : Part) →
 
 -- a step from a row has one outcome, and leaves one value of each name
 abbrev pub OneStepLaw : Type 0
-OneStepLaw = (s : Setting) (uses own : List Use) (S : Assignment) (m : ℕ) (base : Row) (telling : Telling) → AreUses s uses → (a b : Part) (one two : Outcome)
-    → HasStepped s uses own S m base telling a one → HasStepped s uses own S m base telling b two
-    → (one ≡ two) × ((x : ℕ) → IsReachedBy x own → now_in (cell_in telling.places a.cells.items x) ≡ now_in (cell_in telling.places b.cells.items x))
+OneStepLaw = (s : Setting) (uses own : List Use) (S : Assignment) (m : ℕ) (base : Row) (showing : Showing) → AreUses s uses → (a b : Part) (one two : Outcome)
+    → HasStepped s uses own S m base showing a one → HasStepped s uses own S m base showing b two
+    → (one ≡ two) × ((x : ℕ) → IsReachedBy x own → now_in (cell_in showing.places a.cells.items x) ≡ now_in (cell_in showing.places b.cells.items x))

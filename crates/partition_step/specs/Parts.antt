@@ -43,7 +43,7 @@ pub record IsLaid (s : Setting) (own : List Use) (places : List ℕ) (entries : 
   pub clocks_are : (j class : ℕ) → slice_get classes j ≡ Some class → (clock : Clock) × (slice_get clocks j ≡ Some clock) × (clock_of s (Some class) ≡ Some clock)
   pub from_use : (j class : ℕ) → slice_get classes j ≡ Some class → (entry : Use) × Contains own entry × (class_of_equation s entry.equation ≡ Some class)
 
--- a part is that of these uses, has room for what is told of its classes, and any code that it has is that of the uses
+-- a part is that of these uses, has room for what is shown of its classes, and any code that it has is that of the uses
 pub record IsPartOf (s : Setting) (own : List Use) (places : List ℕ) (part : Part) : Type 0 where
   pub laid : IsLaid s own places part.entries (names_of part.cells.items) (numbers_of part.classes.items) (clocks_of part.classes.items)
   pub room : length part.clocks.items ≡ length part.classes.items

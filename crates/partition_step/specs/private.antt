@@ -1,4 +1,3 @@
 pub mod Coding
 pub mod Laying
 pub mod Stepping
-pub mod Writing

@@ -2,7 +2,7 @@
 ghost use Rattle.std.specs.Prelude.{◌≡◌, length};
 ghost use Rattle.flat_model.specs.declared.clock.Moment.TheVariants.{At};
 ghost use Rattle.partition_step.specs.private.Stepping as spec;
-ghost use Rattle.partition_step.specs.private.Writing.{IsWritten};
+ghost use Rattle.partition_step.specs.Writing.{IsWritten};
 
 use crate::part::ClassKept;
 use flat_model::Moment;

@@ -7,8 +7,8 @@ mod law;
 mod laying;
 mod part;
 mod preparing;
+mod showing;
 mod stepping;
-mod telling;
 
 pub use law::{one_step_law, others_law, places_law, rests_law};
 pub use part::{ClassKept, Outcome, Part};

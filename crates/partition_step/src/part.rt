@@ -22,7 +22,7 @@ pub enum Outcome {
 }
 
 /// The uses of a base partition in their order, the cell of each one's name, the classes of their equations, room for what is
-/// told of these at a moment, and the uses as prepared code where they have some.
+/// shown of these at a moment, and the uses as prepared code where they have some.
 #[derive(Drop)]
 pub struct Part {
     pub(crate) entries: List<Entry>,

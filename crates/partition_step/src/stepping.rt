@@ -6,7 +6,7 @@ ghost use Rattle.partition_step.specs.Steps.{CanStep, StepsFrom};
 use crate::coding::take_any;
 use crate::keeping::{keep, note};
 use crate::part::{Outcome, Part};
-use crate::telling::{begin, tell};
+use crate::showing::{begin, show};
 use flat_model::{FlatModel, Left, Moment};
 use sync_values::Value;
 use tick_plan::Ticking;
@@ -32,7 +32,7 @@ impl Part {
         requires { CanStep (record { equations = flat.now.equations; places = places.now; moment = moment; ticks = T.ticks ticks.now; answers = answers.now; left = left.now }) self.old }
         ensures { StepsFrom (record { equations = flat.now.equations; places = places.now; moment = moment; ticks = T.ticks ticks.now; answers = answers.now; left = left.entry.now }) self.old self.new result }
     {
-        tell(&self.classes, moment, ticks, &mut self.clocks);
+        show(&self.classes, moment, ticks, &mut self.clocks);
         begin(
             self.entries.as_slice(),
             &self.classes,

@@ -3,6 +3,10 @@ use Rattle.std.specs.Prelude.{◌≡◌, ℕ, ◌+◌, ◌*◌, ◌^◌, ◌<◌
 use Rattle.std.specs.Int.{IsGcd}
 use Rattle.rational_time.specs.declared.ratio.Ratio.{Ratio}
 
+-- no stop, and no instant of a table, reaches so many seconds
+abbrev pub second_limit : ℕ
+second_limit = 2 ^ 20
+
 -- two fractions have one value
 abbrev pub Same : Ratio → Ratio → Type 0
 Same a b = a.num * b.den ≡ b.num * a.den

@@ -1,5 +1,5 @@
 ghost use Rattle.std.specs.Prelude.{◌≡◌, ℕ, ◌+◌, ◌-◌, ◌*◌, ◌<◌, ◌≤◌, ◌^◌, ◌↔◌, IfSome, IsNone};
-ghost use Rattle.rational_time.specs.Fraction.{AtMost, IsFloor};
+ghost use Rattle.rational_time.specs.Fraction.{AtMost, IsFloor, second_limit};
 
 use crate::ratio::Ratio;
 
@@ -23,8 +23,8 @@ pub fn floor_times(a: Ratio, k: u32) -> u128
 /// The floor of k times the exact distance of two instants, of which `from` is not after `to`.
 pub fn floor_between(from: Ratio, to: Ratio, k: u32) -> u128
     requires order { AtMost from to }
-    requires from { from.num < 2 ^ 20 * from.den }
-    requires to { to.num < 2 ^ 20 * to.den }
+    requires from { from.num < second_limit * from.den }
+    requires to { to.num < second_limit * to.den }
     requires from_grain { from.den < 2 ^ 40 }
     requires to_grain { to.den < 2 ^ 40 }
     ensures { IsFloor ((to.num * from.den - from.num * to.den) * k) (from.den * to.den) result }

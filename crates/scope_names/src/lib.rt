@@ -7,4 +7,4 @@ mod written;
 
 pub use scopes::Scopes;
 pub use unknown::unknown_name;
-pub use written::{connected_in_all, names_in, names_in_args, names_in_equations, names_in_value};
+pub use written::names_in;

@@ -50,7 +50,7 @@ pub fn names_in<'a>(expr: &'a TreeExpr, found: &mut Vec<&'a Path>) -> Result<(),
 }
 
 /// Adds the names in a value, if there is one.
-pub fn names_in_value<'a>(
+pub(crate) fn names_in_value<'a>(
     value: Option<&'a TreeExpr>,
     found: &mut Vec<&'a Path>,
 ) -> Result<(), AllocError>
@@ -64,7 +64,10 @@ pub fn names_in_value<'a>(
 
 /// Adds the names in several arguments.
 #[cycle(arguments)]
-pub fn names_in_args<'a>(args: &'a [Arg], found: &mut Vec<&'a Path>) -> Result<(), AllocError>
+pub(crate) fn names_in_args<'a>(
+    args: &'a [Arg],
+    found: &mut Vec<&'a Path>,
+) -> Result<(), AllocError>
     ensures { OnOk result (written.Adds found.old.items (written.joined (map written.names_in_arg args.now)) found.new.items) }
 {
     for arg in args {
@@ -84,7 +87,7 @@ fn names_in_arg<'a>(arg: &'a Arg, found: &mut Vec<&'a Path>) -> Result<(), Alloc
 
 /// Adds the names in several equations.
 #[cycle(equations)]
-pub fn names_in_equations<'a>(
+pub(crate) fn names_in_equations<'a>(
     equations: &'a [TreeEq],
     found: &mut Vec<&'a Path>,
 ) -> Result<(), AllocError>
@@ -116,7 +119,7 @@ fn names_in_equation<'a>(equation: &'a TreeEq, found: &mut Vec<&'a Path>) -> Res
 
 /// Adds the names that several equations connect.
 #[cycle(connected)]
-pub fn connected_in_all<'a>(
+pub(crate) fn connected_in_all<'a>(
     equations: &'a [TreeEq],
     found: &mut Vec<&'a Path>,
 ) -> Result<(), AllocError>

@@ -7,7 +7,7 @@ use Rattle.sync_values.specs.declared.value.Value.{Value}
 use Rattle.flat_model.specs.declared.model.NameKind.{NameKind}
 use Rattle.flat_model.specs.declared.model.NameKind.TheVariants as kind
 use Rattle.flat_model.specs.declared.table.Left.{Left}
-use Rattle.flat_model.specs.Answers.{value_in}
+use Rattle.flat_model.specs.Values.{value_in}
 use Rattle.flat_model.specs.Assignment.{Assignment, tick_before, value_at_tick, previous_value}
 use Rattle.flat_model.specs.Meets.{HasValueAtTicks}
 use Rattle.flat_model.specs.Setting.{Setting, flattened, class_of_name, start_of, name_ticks}
@@ -19,11 +19,11 @@ use Rattle.moment_body.specs.declared.model.ClockedModel.{ClockedModel}
 use Rattle.moment_steps.specs.declared.piece.Piece.{Piece}
 use Rattle.moment_steps.specs.Settled.{own_uses}
 use Rattle.moment_steps.proofs.Starting.{valued_within}
-use Rattle.moment_steps.specs.private.Keeping.{last_by, now_by}
+use Rattle.moment_steps.specs.Keeping.{last_by, now_by}
 use Rattle.moment_theory.specs.Free.{IsReachedBy}
 use Rattle.moment_theory.proofs.Meeting.{IsValued}
 use Rattle.moment_theory.proofs.NoSolution.{value_at}
-use Rattle.partition_step.specs.private.Writing.{IsWritten}
+use Rattle.partition_step.specs.Writing.{IsWritten}
 use Rattle.partition_step.proofs.Lists.{map_at, at_map, some_at}
 use Rattle.share_run.specs.Standing.{Holding, AreOwners, IsLeftBeside}
 use Rattle.share_run.specs.Taking.{Values, Plan, GoesOnBeside, TakesShare, KeepsShare}

@@ -4,7 +4,7 @@ use Rattle.std.proofs.lemmas.Bool.{cases_lt}
 use Rattle.std.proofs.lemmas.Option.{none-some, same_Some, slice_get_past}
 use Rattle.std.specs.Prelude.{option_map}
 use Rattle.sync_values.specs.declared.value.Value.{Value}
-use Rattle.flat_model.specs.Answers.{value_in}
+use Rattle.flat_model.specs.Values.{value_in}
 use Rattle.flat_model.specs.Assignment.{Assignment}
 use Rattle.flat_model.specs.Given.{Row}
 use Rattle.flat_model.specs.Setting.{Setting, flattened}
@@ -21,13 +21,13 @@ use Rattle.moment_theory.specs.Division.{joined}
 use Rattle.moment_theory.specs.Free.{IsReachedBy}
 use Rattle.moment_theory.specs.Pieces.{AreBeside}
 use Rattle.moment_theory.proofs.Settled.{model}
-use Rattle.partition_step.specs.private.Writing.{IsWritten}
+use Rattle.partition_step.specs.Writing.{IsWritten}
 use Rattle.partition_step.proofs.Lists.{map_at, at_map, some_at}
 use Rattle.share_run.specs.private.Gathering.{owned, owned_at}
 use Rattle.share_run.specs.Standing.{Holding, pieces_of}
 use Rattle.share_run.specs.Taking.{Values, Plan, IsShareAt}
 use Rattle.share_run.proofs.Slots.{owns, slot_of_piece, owns_value}
-use Rattle.share_run.proofs.Starts.{telling}
+use Rattle.share_run.proofs.Starts.{showing}
 use Rattle.tree_step.specs.Starts.{uses_of}
 
 -- what a piece reaches, all of them do
@@ -37,7 +37,7 @@ reached_joined (p ∷ ps) zero piece found y reached = reached_first p (joined p
 reached_joined (p ∷ ps) (suc i) piece found y reached = reached_second p (joined ps) y (reached_joined ps i piece found y reached)
 
 module _ (h : Holding) (model_now : ClockedModel) (plan : Plan) (now : Values) (s : Setting) (uses pure others : List Use) (A : Assignment) (n : ℕ) (is : IsShareAt h model_now plan now s uses pure others A n)
-    (new : List (Slot Piece)) (stepped : AreSteppedAt (telling h model_now plan now) h.classes h.slots new) (after : Values) (gathers : IsWritten (owned_at h.owners h.numbers h.places new) now after) where
+    (new : List (Slot Piece)) (stepped : AreSteppedAt (showing h model_now plan now) h.classes h.slots new) (after : Values) (gathers : IsWritten (owned_at h.owners h.numbers h.places new) now after) where
   abbrev rows : ℕ → Row
   rows = owns h model_now plan now s uses pure others A n is new stepped
 

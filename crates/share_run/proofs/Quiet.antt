@@ -22,7 +22,7 @@ use Rattle.flat_model.specs.Moments.{moment_at}
 use Rattle.flat_model.specs.Occurrences.{bare_count}
 use Rattle.flat_model.specs.Models.{IsName}
 use Rattle.flat_model.specs.Operators.{Answer, Is, Fails, Absent}
-use Rattle.flat_model.specs.Parts.{parts_beside, kind_of}
+use Rattle.flat_model.specs.Ways.{parts_beside, kind_of}
 use Rattle.flat_model.specs.Setting.{Setting, class_of_name, class_of_equation, views_at, site_answer, class_ticks, name_ticks}
 use Rattle.flat_model.specs.Uses.{Use}
 use Rattle.flat_model.proofs.Above.{Above}
@@ -55,7 +55,7 @@ use Rattle.moment_theory.proofs.Settled.{model, once, tables}
 use Rattle.moment_theory.proofs.Taking.{unchanged}
 use Rattle.moment_theory.proofs.Turns.{in_its_piece}
 use Rattle.first_failure.specs.declared.least.EquationFailing.{EquationFailing}
-use Rattle.flat_model.specs.Answers.{value_in}
+use Rattle.flat_model.specs.Values.{value_in}
 use Rattle.fork_steps.specs.declared.slot.Slot.{Slot}
 use Rattle.moment_body.specs.declared.model.ClockedModel.{ClockedModel}
 use Rattle.moment_join.specs.Told.{earliest}

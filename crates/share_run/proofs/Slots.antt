@@ -7,7 +7,7 @@ use Rattle.std.specs.Prelude.{option_map}
 use Rattle.sync_values.specs.declared.value.Value.{Value}
 use Rattle.first_failure.specs.declared.least.EquationFailing.{EquationFailing}
 use Rattle.first_failure.specs.Turns.{FailsAmong, IsLeast}
-use Rattle.flat_model.specs.Answers.{value_in}
+use Rattle.flat_model.specs.Values.{value_in}
 use Rattle.flat_model.specs.Assignment.{Assignment}
 use Rattle.flat_model.specs.Given.{Row, with_row}
 use Rattle.flat_model.specs.Setting.{Setting, class_of_equation, class_ticks}
@@ -29,20 +29,20 @@ use Rattle.moment_theory.proofs.Members.{IsMember, member_contains}
 use Rattle.moment_theory.proofs.Settled.{model}
 use Rattle.moment_theory.proofs.Taking.{unchanged}
 use Rattle.partition_step.specs.Parts.{IsPartOf, StandsFor}
-use Rattle.partition_step.specs.Steps.{Telling, GoesOnWith, HasStepped}
+use Rattle.partition_step.specs.Steps.{Showing, GoesOnWith, HasStepped}
 use Rattle.partition_step.proofs.Lists.{lists_same, none_past, map_at, at_map, some_at}
 use Rattle.partition_step.proofs.Resting.{rests}
 use Rattle.share_run.specs.Standing.{Holding, IsShareSlot, pieces_of}
 use Rattle.share_run.specs.Taking.{Values, Plan, IsShareAt}
-use Rattle.share_run.proofs.Starts.{telling, slot_is, ahead, after, step_start}
+use Rattle.share_run.proofs.Starts.{showing, slot_is, ahead, after, step_start}
 use Rattle.tree_step.specs.Cells.{cell_in}
 use Rattle.tree_step.specs.Frames.{now_in}
 use Rattle.tree_step.specs.Starts.{uses_of}
 
 module _ (h : Holding) (model_now : ClockedModel) (plan : Plan) (now : Values) (s : Setting) (uses pure others : List Use) (A : Assignment) (n : ℕ) (is : IsShareAt h model_now plan now s uses pure others A n)
-    (new : List (Slot Piece)) (stepped : AreSteppedAt (telling h model_now plan now) h.classes h.slots new) where
-  abbrev told_now : Telling
-  told_now = telling h model_now plan now
+    (new : List (Slot Piece)) (stepped : AreSteppedAt (showing h model_now plan now) h.classes h.slots new) where
+  abbrev told_now : Showing
+  told_now = showing h model_now plan now
 
   abbrev base : Row
   base = value_in now
@@ -205,7 +205,7 @@ module _ (h : Holding) (model_now : ClockedModel) (plan : Plan) (now : Values) (
       (row.own, row.piece)
 
 -- each slot has the same uses
-pub same_pieces : (h : Holding) (told : Telling) (new : List (Slot Piece)) → AreSteppedAt told h.classes h.slots new → map own_uses new ≡ pieces_of h
+pub same_pieces : (h : Holding) (told : Showing) (new : List (Slot Piece)) → AreSteppedAt told h.classes h.slots new → map own_uses new ≡ pieces_of h
 same_pieces h told new stepped = lists_same (map own_uses new) (map own_uses h.slots) (λ i. at_place i (slice_get new i) refl)
   where
     past : (i : ℕ) → slice_get new i ≡ None → slice_get h.slots i ≡ None

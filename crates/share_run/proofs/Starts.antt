@@ -2,7 +2,7 @@
 use Rattle.std.proofs.Common.{◌≡◌, ap, ◌∙◌, sym, ℕ, List, ◌++◌, Some, slice_get, Contains, inl, inr, subst}
 use Rattle.flat_model.specs.declared.equation.Equation.{Equation}
 use Rattle.flat_model.specs.declared.equation.Equation.TheVariants.{Valued, Clocks}
-use Rattle.flat_model.specs.Answers.{value_in}
+use Rattle.flat_model.specs.Values.{value_in}
 use Rattle.flat_model.specs.Asks.{OfLast}
 use Rattle.flat_model.specs.Assignment.{Assignment}
 use Rattle.flat_model.specs.Given.{Row}
@@ -23,7 +23,7 @@ use Rattle.moment_theory.proofs.Beside.{regroup}
 use Rattle.moment_theory.proofs.FromRunnable.{all_at}
 use Rattle.moment_theory.proofs.Named.{typed_names}
 use Rattle.partition_step.specs.Parts.{IsPiece}
-use Rattle.partition_step.specs.Steps.{Telling, AreSamplesTold, IsTold, IsStepStart, CanStep}
+use Rattle.partition_step.specs.Steps.{Showing, AreSamplesShown, IsShown, IsStepStart, CanStep}
 use Rattle.partition_step.proofs.Lists.{at_map}
 use Rattle.share_run.specs.Shares.{AskNothingOf}
 use Rattle.share_run.specs.Standing.{Holding, IsShareSlot, pieces_of}
@@ -39,8 +39,8 @@ cut_order pure ps later front piece back is =
 -- ---- before a moment
 
 module _ (h : Holding) (model_now : ClockedModel) (plan : Plan) (now : Values) where
-  abbrev pub telling : Telling
-  telling = record { equations = model_now.flat.equations; places = h.places; moment = plan.at; ticks = plan.ticks; answers = plan.answers; left = h.left }
+  abbrev pub showing : Showing
+  showing = record { equations = model_now.flat.equations; places = h.places; moment = plan.at; ticks = plan.ticks; answers = plan.answers; left = h.left }
 
   module _ (s : Setting) (uses pure others : List Use) (A : Assignment) (n : ℕ) (is : IsShareAt h model_now plan now s uses pure others A n) where
     abbrev pub base : Row
@@ -50,7 +50,7 @@ module _ (h : Holding) (model_now : ClockedModel) (plan : Plan) (now : Values) w
     abbrev pub later : List Use
     later = uses_of h.waiting ++ others
 
-    samples : (own : List Use) → AskNothingOf s own others → (entry : Use) (equation : Equation) → Contains own entry → slice_get s.model.equations entry.equation ≡ Some equation → AreSamplesTold s A n h.left equation
+    samples : (own : List Use) → AskNothingOf s own others → (entry : Use) (equation : Equation) → Contains own entry → slice_get s.model.equations entry.equation ≡ Some equation → AreSamplesShown s A n h.left equation
     samples own alone entry (Clocks left right clause) has found = tt
     samples own alone entry (Valued left right clause) has found =
         let typed : IsTyped (types_in s.model.names) (Valued left right clause) = all_at (IsTyped (types_in s.model.names)) s.model.equations entry.equation (Valued left right clause) is.division.staged.ordered.runs.model.typed.equations found in
@@ -95,8 +95,8 @@ module _ (h : Holding) (model_now : ClockedModel) (plan : Plan) (now : Values) w
         whole = slot_is.whole;
       }
 
-      told : IsTold s own A n base telling
-      told = record {
+      shown : IsShown s own A n base showing
+      shown = record {
         model = ap (λ flat. flat.equations) is.model_is.flat;
         here = is.here;
         ticks = is.ticks_are;
@@ -104,7 +104,7 @@ module _ (h : Holding) (model_now : ClockedModel) (plan : Plan) (now : Values) w
         samples = samples own (is.division.pieces_alone i own piece_found);
       }
 
-      pub step_start : IsStepStart s uses ahead own after slot_is.partition A n base telling slot.piece.part
+      pub step_start : IsStepStart s uses ahead own after slot_is.partition A n base showing slot.piece.part
       step_start = record {
         piece = piece;
         part_of = slot_is.part_of;
@@ -113,11 +113,11 @@ module _ (h : Holding) (model_now : ClockedModel) (plan : Plan) (now : Values) w
         typed = base_typed s uses pure (pieces_of h) later is.division.staged A n plan.at is.here is.inputs is.are base is.taken;
         sound = base_sound s uses pure (pieces_of h) later is.division.staged A n plan.at is.here is.inputs is.are base is.taken;
         clear = piece_clear s uses pure (pieces_of h) later is.division.staged A n plan.at is.here is.inputs is.are base is.taken i own piece_found;
-        told = told;
+        shown = shown;
         measured = is.before.settled.measured;
       }
 
-  pub can_step : CanTakeShare h model_now plan now → (i : ℕ) (slot : Slot Piece) → slice_get h.slots i ≡ Some slot → CanStep telling slot.piece.part
+  pub can_step : CanTakeShare h model_now plan now → (i : ℕ) (slot : Slot Piece) → slice_get h.slots i ≡ Some slot → CanStep showing slot.piece.part
   can_step (s, uses, pure, others, A, n, is) i slot found = record {
     s = s;
     uses = uses;

@@ -8,7 +8,7 @@ use Rattle.first_failure.specs.Turns.{FailsAmong, IsLeast}
 use Rattle.flat_model.specs.declared.equation.Equation.{Equation}
 use Rattle.flat_model.specs.declared.equation.Equation.TheVariants.{Valued, Clocks}
 use Rattle.flat_model.specs.declared.expression.Expr.{Expr}
-use Rattle.flat_model.specs.Answers.{value_in}
+use Rattle.flat_model.specs.Values.{value_in}
 use Rattle.flat_model.specs.Asks.{AsksFor, OfLast}
 use Rattle.flat_model.specs.Assignment.{Assignment}
 use Rattle.flat_model.specs.Given.{Row, with_row}
@@ -24,7 +24,7 @@ use Rattle.moment_steps.specs.declared.taking.UnclockedReads.{UnclockedReads}
 use Rattle.moment_steps.specs.Gathered.{told_in}
 use Rattle.moment_steps.specs.Settled.{IsSettled}
 use Rattle.moment_steps.specs.Stepped.{AreSteppedAt}
-use Rattle.moment_steps.specs.private.Opening.{opened_by, standing, value_by}
+use Rattle.moment_steps.specs.Opening.{opened_by, standing, value_by}
 use Rattle.moment_steps.proofs.Copied.{copied}
 use Rattle.moment_steps.proofs.Parts.{answer_flat}
 use Rattle.moment_steps.proofs.Pure.{among_contains, outside}
@@ -41,20 +41,20 @@ use Rattle.moment_theory.proofs.Taking.{unchanged}
 use Rattle.part_groups.specs.Units.{EquationNames}
 use Rattle.partition_step.specs.Parts.{StandsFor}
 use Rattle.partition_step.specs.Steps.{GoesOnWith}
-use Rattle.partition_step.specs.private.Writing.{IsWritten}
+use Rattle.partition_step.specs.Writing.{IsWritten}
 use Rattle.partition_step.proofs.Lists.{at_map, some_at}
 use Rattle.share_run.specs.private.Gathering.{owned_at}
 use Rattle.share_run.specs.Standing.{Holding, pieces_of}
 use Rattle.share_run.specs.Taking.{Values, Plan, IsShareAt, CanTakeShare, GoesOnBeside, HasTakenShare, TakesShare}
 use Rattle.share_run.proofs.Owned.{reached_joined, beside}
 use Rattle.share_run.proofs.Slots.{SlotRow, slot_row, owns, owns_is, alone, told_at, no_more, same_pieces}
-use Rattle.share_run.proofs.Starts.{telling}
+use Rattle.share_run.proofs.Starts.{showing}
 use Rattle.tree_step.specs.declared.cell.Cell.{Cell}
 use Rattle.tree_step.specs.declared.taking.Entry.{Entry}
 use Rattle.tree_step.specs.Starts.{Sight, use_of, uses_of, IsAmong, StandsAs, AreSitesApart, IsStart, CanStart}
 use Rattle.tree_step.specs.Takes.{TakesUses, HasTaken}
 
--- ---- what is told
+-- ---- what is shown
 
 none_both : (one other : Option EquationFailing) → earlier one other ≡ None → (one ≡ None) × (other ≡ None)
 none_both None other none = (refl, none)
@@ -81,7 +81,7 @@ names_last (Valued left right clause) z (inl asks) = inl (0, inr (inl (asks_last
 names_last (Valued left right clause) z (inr asks) = inr (0, inr (inl (asks_last right z asks)))
 names_last (Clocks left right clause) z asks = absurd asks
 
-module _ (h : Holding) (model_now : ClockedModel) (plan : Plan) (now : Values) (new : List (Slot Piece)) (stepped : AreSteppedAt (telling h model_now plan now) h.classes h.slots new)
+module _ (h : Holding) (model_now : ClockedModel) (plan : Plan) (now : Values) (new : List (Slot Piece)) (stepped : AreSteppedAt (showing h model_now plan now) h.classes h.slots new)
     (gathered : Values) (gathers : IsWritten (owned_at h.owners h.numbers h.places new) now gathered)
     (shown : List Cell) (opens : IsWritten (opened_by h.numbers h.left.last gathered (standing model_now.clocking plan.ticks plan.answers)) h.cells shown) where
   abbrev pub sight : Sight
@@ -217,7 +217,7 @@ module _ (h : Holding) (model_now : ClockedModel) (plan : Plan) (now : Values) (
               ∙ (rows_beside s uses pure others A n is).own i of_slot.own x of_slot.piece reached
               ∙ ap (λ r. r x) (sym (owns_is h model_now plan now s uses pure others A n is new stepped i slot found))
 
-          next : GoesOnWith s of_slot.own A n of_slot.row (telling h model_now plan now) T
+          next : GoesOnWith s of_slot.own A n of_slot.row (showing h model_now plan now) T
           next = record { agrees = on.agrees; meets = on.meets; values = values; ticks = on.ticks_are }
 
           stands : result ≡ None → StandsFor s T (suc n) slot.piece.part
@@ -236,7 +236,7 @@ module _ (h : Holding) (model_now : ClockedModel) (plan : Plan) (now : Values) (
         no_more = no_more h model_now plan now s uses pure others A n is new stepped;
         behind_told = subst (λ r. IsLeast (FailsAmong s uses A n (uses_of h.waiting) r) behind) own_is has.told;
         told_is = result_is;
-        same = same_pieces h (telling h model_now plan now) new stepped;
+        same = same_pieces h (showing h model_now plan now) new stepped;
         slots_are = λ i slot found. (of_slot i slot found).slot_of;
         goes_on = λ none T on i slot found. stands i slot found T on none;
       }

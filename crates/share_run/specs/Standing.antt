@@ -1,7 +1,7 @@
 -- What stands of a share before a moment. This project's own.
 use Rattle.std.specs.Prelude.{◌≡◌, ℕ, suc, ◌<◌, List, length, map, Option, Some, slice_get, Contains}
 use Rattle.flat_model.specs.declared.table.Left.{Left}
-use Rattle.flat_model.specs.Answers.{value_in}
+use Rattle.flat_model.specs.Values.{value_in}
 use Rattle.flat_model.specs.Assignment.{Assignment, previous_value}
 use Rattle.flat_model.specs.Setting.{Setting, flattened, class_of_equation, partition_of, start_of, name_ticks}
 use Rattle.flat_model.specs.Uses.{Use}
@@ -19,7 +19,7 @@ use Rattle.tree_step.specs.declared.frame.ClockNow.{ClockNow}
 use Rattle.tree_step.specs.declared.taking.Entry.{Entry}
 use Rattle.tree_step.specs.Starts.{uses_of, IsAmong}
 
--- what a share has: the place of each class's base partition, the slot that reaches each name, its waiting uses, what is told of no clock, the numbers of names and the places of their cells, its base partitions, a cell for each name, and what was left
+-- what a share has: the place of each class's base partition, the slot that reaches each name, its waiting uses, what is shown of no clock, the numbers of names and the places of their cells, its base partitions, a cell for each name, and what was left
 pub record Holding : Type 0 where
   pub classes : List ℕ
   pub owners : List (Option ℕ)

@@ -1,7 +1,7 @@
 //! The values of clocked names, from the base partitions of a share.
 ghost use Rattle.std.specs.Prelude.{◌≡◌};
 ghost use Rattle.moment_steps.specs.Gathered.{value_from as value_by};
-ghost use Rattle.partition_step.specs.private.Writing.{IsWritten};
+ghost use Rattle.partition_step.specs.Writing.{IsWritten};
 ghost use Rattle.share_run.specs.private.Gathering as spec;
 
 use fork_steps::Slot;

@@ -10,7 +10,7 @@ pub struct ShareUses<'share> {
     pub owners: &'share [Option<u32>],
     /// The unclocked uses of the share, in their order.
     pub waiting: &'share [Entry],
-    /// What is told of no clock: that it ticks.
+    /// What is shown of no clock: that it ticks.
     pub always: &'share [ClockNow],
     /// The numbers of all names, which are also the places of their cells.
     pub numbers: &'share [u32],

@@ -1,7 +1,7 @@
 //! One moment of a share.
 ghost use Rattle.std.specs.Prelude.{◌≡◌, length};
-ghost use Rattle.moment_steps.specs.private.Opening.{value_by};
-ghost use Rattle.partition_step.specs.private.Writing.{IsWritten};
+ghost use Rattle.moment_steps.specs.Opening.{value_by};
+ghost use Rattle.partition_step.specs.Writing.{IsWritten};
 ghost use Rattle.share_run.specs.Standing.{holding_of};
 ghost use Rattle.share_run.specs.Taking.{plan_of, CanTakeShare, TakesShare, KeepsShare, GoesOnShare};
 ghost use Rattle.tree_step.specs.Starts.{CanStart};

@@ -5,7 +5,7 @@ use Rattle.std.proofs.lemmas.Option.{none-some, same_Some, slice_get_past}
 use Rattle.sync_values.specs.declared.value.Value.{Value}
 use Rattle.first_failure.specs.declared.least.EquationFailing.{EquationFailing}
 use Rattle.first_failure.specs.Turns.{FailsAmong, IsLeast}
-use Rattle.flat_model.specs.Answers.{value_in}
+use Rattle.flat_model.specs.Values.{value_in}
 use Rattle.flat_model.specs.Assignment.{Assignment}
 use Rattle.flat_model.specs.Given.{with_row}
 use Rattle.flat_model.specs.Setting.{Setting, flattened}
@@ -21,7 +21,7 @@ use Rattle.moment_theory.specs.Free.{IsReachedBy}
 use Rattle.moment_theory.specs.Going.{AgreeBefore}
 use Rattle.moment_theory.proofs.Rows.{row_before}
 use Rattle.moment_theory.proofs.Settled.{model}
-use Rattle.partition_step.specs.private.Writing.{IsWritten}
+use Rattle.partition_step.specs.Writing.{IsWritten}
 use Rattle.partition_step.proofs.Lists.{some_at, written_at}
 use Rattle.share_run.specs.Shares.{IsShareOf}
 use Rattle.share_run.specs.Standing.{Holding, IsShareBefore, division_of, pieces_of}

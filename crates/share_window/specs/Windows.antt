@@ -4,7 +4,7 @@ use Rattle.std.specs.declared.vec.Vec.{Vec}
 use Rattle.std.specs.Prelude.{◌≡◌, ℕ, suc, ◌+◌, ◌<◌, List, [], length, Option, Some, None, slice_get}
 use Rattle.sync_values.specs.declared.value.Value.{Value}
 use Rattle.first_failure.specs.declared.least.EquationFailing.{EquationFailing}
-use Rattle.flat_model.specs.Answers.{value_in}
+use Rattle.flat_model.specs.Values.{value_in}
 use Rattle.flat_model.specs.Assignment.{Assignment}
 use Rattle.flat_model.specs.Given.{Row}
 use Rattle.flat_model.specs.Setting.{Setting}

@@ -1,6 +1,6 @@
 //! A share over the moments of a window.
 ghost use Rattle.std.specs.Prelude.{◌≡◌, ◌≤◌, length};
-ghost use Rattle.partition_step.specs.private.Writing.{IsWritten};
+ghost use Rattle.partition_step.specs.Writing.{IsWritten};
 ghost use Rattle.share_run.specs.Standing.{holding_of};
 ghost use Rattle.share_window.specs.Windows.{CanRunShare, RunsShare, AreAsWide};
 ghost use Rattle.share_window.specs.private.Owning.{own_by};

@@ -7,4 +7,4 @@ pub mod Counting
 pub mod Onward
 pub mod Taking
 pub mod Keeping
-pub mod Setting
+pub mod SetCells

@@ -13,7 +13,7 @@ use Rattle.flat_model.specs.Given.{Row, with_row, with_value, CanUse}
 use Rattle.flat_model.specs.Meaning.{value_of}
 use Rattle.flat_model.specs.Occurrences.{bare_count}
 use Rattle.flat_model.specs.Operators.{Answer, Is, Fails, Absent, read}
-use Rattle.flat_model.specs.Parts.{kind_of}
+use Rattle.flat_model.specs.Ways.{kind_of}
 use Rattle.flat_model.specs.Runnable.{IsRunnable}
 use Rattle.flat_model.specs.Setting.{Setting, class_of_name, class_of_equation, class_ticks, views_at}
 use Rattle.flat_model.specs.Uses.{Use, AreUses, IsSolvableFor, SiteReads}

@@ -11,7 +11,7 @@ use Rattle.flat_model.specs.Meaning.{seen_by, value_of}
 use Rattle.flat_model.specs.Meets.{HasOneValue}
 use Rattle.flat_model.specs.Occurrences.{one_if, bare_count}
 use Rattle.flat_model.specs.Operators.{Is, read}
-use Rattle.flat_model.specs.Parts.{beside_of, way_to, parts_beside}
+use Rattle.flat_model.specs.Ways.{beside_of, way_to, parts_beside}
 use Rattle.flat_model.specs.Runnable.{IsEquationClocked, IsSideClocked}
 use Rattle.flat_model.specs.Setting.{Setting}
 use Rattle.flat_model.specs.Typing.{Types}

@@ -5,7 +5,7 @@ use Rattle.std.proofs.lemmas.Option.{none-some, same_Some}
 use Rattle.sync_values.specs.declared.value.Value.{Value}
 use Rattle.sync_values.specs.declared.value.Fail.{Fail}
 use Rattle.flat_model.specs.declared.expression.Expr.{Expr}
-use Rattle.flat_model.specs.Answers.{value_in, views_of, truth_in}
+use Rattle.flat_model.specs.Values.{value_in, views_of, truth_in}
 use Rattle.flat_model.specs.Assignment.{Assignment}
 use Rattle.flat_model.specs.Faults.{SiteFails}
 use Rattle.flat_model.specs.Given.{with_row}
@@ -18,7 +18,7 @@ use Rattle.flat_model.proofs.Conditions.{site_same_over}
 use Rattle.moment_theory.proofs.FromRunnable.{all_at}
 use Rattle.moment_theory.proofs.Rows.{row_now}
 use Rattle.site_risings.specs.declared.answers.SiteFailing.{SiteFailing}
-use Rattle.site_risings.specs.Answers.{FailsOver, IsFailingOver, SiteFailsOver, TellsFirst}
+use Rattle.site_risings.specs.SiteFailures.{FailsOver, IsFailingOver, SiteFailsOver, TellsFirst}
 use Rattle.site_risings.specs.Risings.{answer_of}
 use Rattle.site_risings.specs.private.Lacking.{lacks}
 use Rattle.site_risings.proofs.Lacks.{all_there, some_lacks}

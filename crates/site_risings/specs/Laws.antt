@@ -2,7 +2,7 @@
 use Rattle.std.specs.Prelude.{◌≡◌, ℕ, suc, ◌<◌, Bool, false, List, length, map, Option, Some, slice_get}
 use Rattle.sync_values.specs.declared.value.Value.{Value}
 use Rattle.sync_values.specs.declared.value.Fail.{Fail}
-use Rattle.flat_model.specs.Answers.{value_in, views_of, truth_in}
+use Rattle.flat_model.specs.Values.{value_in, views_of, truth_in}
 use Rattle.flat_model.specs.Assignment.{Assignment}
 use Rattle.flat_model.specs.Faults.{SiteFails}
 use Rattle.flat_model.specs.Given.{with_row}
@@ -11,7 +11,7 @@ use Rattle.flat_model.specs.Runnable.{IsRunnable}
 use Rattle.flat_model.specs.Setting.{Setting, site_answer, is_true, is_false}
 use Rattle.tick_plan.specs.Plans.{Planned}
 use Rattle.run_moments.specs.Moving.{IsPlanTaken, IsPlanAt}
-use Rattle.site_risings.specs.Answers.{SiteFailsOver}
+use Rattle.site_risings.specs.SiteFailures.{SiteFailsOver}
 use Rattle.site_risings.specs.Risings.{is_high, is_low, answer_of, was_low, CanNote, NotedTo}
 
 -- the answers of the conditions at a moment, and which were low at the moment before, are those of S

@@ -1,4 +1,4 @@
-pub mod Answers
+pub mod SiteFailures
 pub mod Laws
 pub mod Risings
 pub mod private

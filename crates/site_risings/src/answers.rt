@@ -1,8 +1,8 @@
 ghost use Rattle.std.specs.Prelude.{◌≡◌, ◌<◌, ◌^◌, length, map, option_map, slice_get, Some, None};
 ghost use Rattle.flat_model.specs.declared.expression.Expr.{Expr};
-ghost use Rattle.flat_model.specs.Answers.{stated, truth_in, views_of};
+ghost use Rattle.flat_model.specs.Values.{stated, truth_in, views_of};
 ghost use Rattle.flat_model.specs.Meaning.{value_of};
-ghost use Rattle.site_risings.specs.Answers.{IsFailingOver, TellsFirst};
+ghost use Rattle.site_risings.specs.SiteFailures.{IsFailingOver, TellsFirst};
 
 use crate::reads::lacks;
 use flat_model::{Answer, Expr, answer};

@@ -15,7 +15,7 @@ use Rattle.flat_model.specs.Asks.{Asking, OfNow, Asked, asked, asked_in_level, a
 use Rattle.flat_model.specs.Operators.{Answer, chain}
 use Rattle.flat_model.specs.Views.{Views}
 use Rattle.flat_model.specs.Meaning.{Meaning, seen_by, value_of}
-use Rattle.flat_model.specs.Parts.{Way, beside_of, prefix_of, beside_in_chain, reaches_through, beside_through, way_through, way_to}
+use Rattle.flat_model.specs.Ways.{Way, beside_of, prefix_of, beside_in_chain, reaches_through, beside_through, way_through, way_to}
 use Rattle.flat_model.specs.Typing.{Types, is_type, chain_type, type_of, type_of_level}
 use Rattle.flat_model.proofs.Asks.{asked_roll}
 use Rattle.flat_model.proofs.Typed.{IsAnswerOf, IsTypedAt, typed_value, both, typed_some, is_type_some}

@@ -24,7 +24,7 @@ use Rattle.flat_model.specs.Meaning.{seen_by, value_of}
 use Rattle.flat_model.specs.Meets.{HasOneValue}
 use Rattle.flat_model.specs.Occurrences.{bare_count, is_reached}
 use Rattle.flat_model.specs.Operators.{Is}
-use Rattle.flat_model.specs.Parts.{parts_beside, beside_of, way_to, kind_of}
+use Rattle.flat_model.specs.Ways.{parts_beside, beside_of, way_to, kind_of}
 use Rattle.flat_model.specs.Runnable.{IsRunnable, IsSideClocked}
 use Rattle.flat_model.specs.Setting.{Setting, class_of_name, class_of_equation, class_ticks, views_at}
 use Rattle.flat_model.specs.Typing.{types_in, valued_type, type_of}

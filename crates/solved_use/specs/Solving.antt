@@ -11,7 +11,7 @@ use Rattle.flat_model.specs.Assignment.{Assignment}
 use Rattle.flat_model.specs.Evaluation.{answer_of}
 use Rattle.flat_model.specs.Given.{Row, with_row, CanUse}
 use Rattle.flat_model.specs.Meaning.{seen_by}
-use Rattle.flat_model.specs.Parts.{parts_beside}
+use Rattle.flat_model.specs.Ways.{parts_beside}
 use Rattle.flat_model.specs.Runnable.{IsRunnable}
 use Rattle.flat_model.specs.Setting.{Setting, class_of_equation, views_at}
 use Rattle.flat_model.specs.Uses.{Use, AreUses}

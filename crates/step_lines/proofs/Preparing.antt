@@ -21,11 +21,6 @@ pub record Prepared (at : Cells) (t : ℕ) (lines : List given.Line) (i : ℕ) (
   pub marks_are : reverse marks ≡ marks_of at t (lines_of (drop i lines))
 
 module _ (at : Cells) (t : ℕ) (lines : List given.Line) where
-  pub prepared_none : Prepared at t lines (length lines) [] []
-  prepared_none =
-      let none : drop (length lines) lines ≡ [] = drop_all (length lines) lines (omega arith) in
-      record { within = omega arith; code = ap (λ z. lines_code at t (lines_of z)) (sym none); marks_are = ap (λ z. marks_of at t (lines_of z)) (sym none) }
-
   head_at : (i : ℕ) (d : given.Line) → 0 < i → i ≤ length lines → drop (i - 1) lines ≡ get_or lines (i - 1) d ∷ drop i lines
   head_at i d some within =
       let k = i - 1 in

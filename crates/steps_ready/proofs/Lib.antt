@@ -2,4 +2,4 @@ pub mod Divided
 pub mod Parted
 pub mod Staged
 pub mod Standing
-pub mod Told
+pub mod Gathered

@@ -1,7 +1,7 @@
 //! The names that unclocked equations read.
 ghost use Rattle.std.specs.Prelude.{◌≡◌, Some, slice_get, IfOk};
 ghost use Rattle.flat_model.specs.declared.equation.Equation.{Equation};
-ghost use Rattle.tree_step.specs.Changed.{TellReads, AreReadsOf};
+ghost use Rattle.tree_step.specs.Changed.{HasReads, AreReadsOf};
 
 use eq_orient::{Manner, gather};
 use flat_model::{Equation, Expr, FlatModel};
@@ -19,7 +19,7 @@ fn none(alloc: Global) -> Reads {
 
 /// The names that an equation reads at a moment.
 fn reads_of(alloc: Global, equation: &Equation) -> Result<Reads, AllocError>
-    ensures { IfOk result (TellReads equation.now) }
+    ensures { IfOk result (HasReads equation.now) }
 {
     let Equation::Valued { left, right, .. } = equation else {
         return Ok(none(alloc));
@@ -40,7 +40,7 @@ fn reads_of(alloc: Global, equation: &Equation) -> Result<Reads, AllocError>
 
 /// The names that the equation of a use reads at a moment.
 fn reads_by(alloc: Global, flat: &FlatModel, entry: Entry) -> Result<Reads, AllocError>
-    ensures { IfOk result (λ reads. (equation : Equation) → slice_get flat.now.equations entry.equation ≡ Some equation → TellReads equation reads) }
+    ensures { IfOk result (λ reads. (equation : Equation) → slice_get flat.now.equations entry.equation ≡ Some equation → HasReads equation reads) }
 {
     match flat.equations.as_slice().get(entry.equation as usize) {
         Some(equation) => reads_of(alloc, equation),

@@ -1,6 +1,6 @@
 //! What is kept of names before the first moment.
 ghost use Rattle.std.specs.Prelude.{◌≡◌, ℕ, ◌<◌, length, map, slice_get, None, Some, IfOk};
-ghost use Rattle.flat_model.specs.Answers.{value_in};
+ghost use Rattle.flat_model.specs.Values.{value_in};
 ghost use Rattle.moment_steps.specs.Settled.{AlwaysTicks};
 ghost use Rattle.steps_ready.specs.private.Starting.{start_of};
 
@@ -35,7 +35,7 @@ pub(crate) fn room(alloc: Global, count: usize) -> Result<Vec<Cell>, AllocError>
     Vec::from_elem(alloc, cell, count)
 }
 
-/// What is told of no clock.
+/// What is shown of no clock.
 pub(crate) fn always(alloc: Global) -> Result<List<ClockNow>, AllocError>
     ensures { IfOk result AlwaysTicks }
 {

@@ -15,8 +15,8 @@ use Rattle.clock_spread.specs.Found.{Agrees, Agree, NoneLost, class_in, found_of
 use Rattle.clock_spread.specs.Turn.{AreProper, said_by}
 use Rattle.clock_spread.proofs.Limits.{grid_proper}
 use Rattle.sub_clock_solve.specs.declared.given.Given.{Given}
-use Rattle.sub_clock_solve.specs.Given.{IsSource}
-use Rattle.sub_clock_solve.specs.Failing.{Differs, kept_grid}
+use Rattle.sub_clock_solve.specs.private.Given.{IsSource}
+use Rattle.sub_clock_solve.specs.private.Failing.{Differs, kept_grid}
 
 some_same : {A : Type 0} {a b : A} → Some a ≡ Some b → a ≡ b
 some_same e = cc

@@ -18,8 +18,8 @@ use Rattle.clock_spread.specs.Rounds.{AreGotten}
 use Rattle.clock_spread.proofs.Only.{source_conflict, relation_conflict}
 use Rattle.sub_clock_solve.specs.Solving.{said_of, place_of, AreGrids, AreSolved, GetsNone, IsTooFineAt, FailsAt, HasNoClocking}
 use Rattle.sub_clock_solve.specs.Grain.{denominators, IsGrainPast}
-use Rattle.sub_clock_solve.specs.Gathering.{kept_of, kept_grids}
-use Rattle.sub_clock_solve.specs.Spreading.{IsSpread}
+use Rattle.sub_clock_solve.specs.private.Gathering.{kept_of, kept_grids}
+use Rattle.sub_clock_solve.specs.private.Spreading.{IsSpread}
 use Rattle.sub_clock_solve.proofs.Grains.{fewer_below}
 use Rattle.sub_clock_solve.proofs.Gathers.{AllKept, kept_length, kept_take, kept_get, kept_more, den_append}
 use Rattle.sub_clock_solve.proofs.Rounding.{final, final_agree, final_gotten, unknown_gets_none, gets_none_unknown, none_too_fine, first_too_fine}

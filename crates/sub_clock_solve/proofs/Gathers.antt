@@ -8,7 +8,7 @@ use Rattle.clock_spread.specs.declared.offers.Found.{Found}
 use Rattle.clock_spread.specs.declared.offers.Found.TheVariants.{Not, Kept, Lost}
 use Rattle.clock_spread.specs.Found.{found_of}
 use Rattle.clock_spread.specs.Queue.{marked}
-use Rattle.sub_clock_solve.specs.Gathering.{kept_of, kept_grids}
+use Rattle.sub_clock_solve.specs.private.Gathering.{kept_of, kept_grids}
 use Rattle.sub_clock_solve.specs.Grain.{own_denominators, denominators}
 
 -- how many of these are clocked

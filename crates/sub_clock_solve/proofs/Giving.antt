@@ -13,7 +13,7 @@ use Rattle.clock_terms.specs.declared.data.Grid.{Grid}
 use Rattle.clock_terms.specs.Position.{IsProper, IsFine}
 use Rattle.clock_terms.specs.Source.{Kind, Inferred, Every, AtSite, Other, kind_of, Source, every, at_site, source_before, sources_from, sources_of}
 use Rattle.sub_clock_solve.specs.declared.given.Given.{Given}
-use Rattle.sub_clock_solve.specs.Given.{IsGridOf, IsSource, AreSources, GivesNone, GivesGrid, Steps, IsStep}
+use Rattle.sub_clock_solve.specs.private.Given.{IsGridOf, IsSource, AreSources, GivesNone, GivesGrid, Steps, IsStep}
 use Rattle.sub_clock_solve.specs.Standing.{IsGivenKind, IsGivenClock}
 
 -- ---- the parts of a fraction are not above those that it is made of

@@ -15,8 +15,8 @@ use Rattle.clock_spread.specs.Turn.{said_by, following, after_more, AreProper, N
 use Rattle.clock_spread.proofs.Losing.{more_proper}
 use Rattle.clock_spread.proofs.Spreading.{settled, stays}
 use Rattle.sub_clock_solve.specs.Solving.{said_of, GetsNone, TakesTooFine, IsAnyTooFine, IsFirstTooFine, NoneTooFine}
-use Rattle.sub_clock_solve.specs.Seeding.{start_of}
-use Rattle.sub_clock_solve.specs.Spreading.{IsSpread}
+use Rattle.sub_clock_solve.specs.private.Seeding.{start_of}
+use Rattle.sub_clock_solve.specs.private.Spreading.{IsSpread}
 
 some_same : {A : Type 0} {a b : A} → Some a ≡ Some b → a ≡ b
 some_same e = cc

@@ -12,8 +12,8 @@ use Rattle.clock_spread.specs.Queue.{marked}
 use Rattle.clock_spread.specs.Rounds.{first_some, if_clocked, seeded}
 use Rattle.clock_spread.proofs.Losing.{kept_fine}
 use Rattle.sub_clock_solve.specs.declared.given.Given.{Given}
-use Rattle.sub_clock_solve.specs.Given.{IsGridOf, AreSources}
-use Rattle.sub_clock_solve.specs.Seeding.{seeded_at, start_of}
+use Rattle.sub_clock_solve.specs.private.Given.{IsGridOf, AreSources}
+use Rattle.sub_clock_solve.specs.private.Seeding.{seeded_at, start_of}
 use Rattle.sub_clock_solve.proofs.Giving.{source_at, sources_length}
 use Rattle.sub_clock_solve.proofs.Rounding.{start_proper}
 

@@ -2,8 +2,4 @@ pub mod Solving
 pub mod Standing
 pub mod Grain
 pub mod Laws
-pub mod Given
-pub mod Seeding
-pub mod Gathering
-pub mod Failing
-pub mod Spreading
+pub mod private

@@ -1,14 +1,15 @@
 -- What holds of the terms and the classes of each model.
-use Rattle.std.specs.Prelude.{◌≡◌, ℕ, ◌<◌, ◌^◌, ◌⊎◌, length, slice_index_or, All}
+use Rattle.std.specs.Prelude.{◌≡◌, ℕ, ◌<◌, ◌⊎◌, length, slice_index_or, All}
 use Rattle.flat_model.specs.declared.clock.ClockExpr.{ClockExpr}
 use Rattle.clock_terms.specs.declared.data.Terms.{Terms}
 use Rattle.clock_terms.specs.declared.data.Classes.{Classes}
 use Rattle.clock_terms.specs.Source.{Kind, Every, kind_of}
 use Rattle.clock_spread.specs.Found.{HasEnds}
+use Rattle.flat_model.specs.Counters.{counter_limit}
 
 -- the numbers of a constructor in seconds are from 1 to 2^31-1
 abbrev pub IsGivenKind : Kind → Type 0
-IsGivenKind (Every n r) = (0 < n) × (n < 2 ^ 31) × (0 < r) × (r < 2 ^ 31)
+IsGivenKind (Every n r) = (0 < n) × (n < counter_limit) × (0 < r) × (r < counter_limit)
 IsGivenKind _ = Unit {0}
 
 abbrev pub IsGivenClock : ClockExpr → Type 0

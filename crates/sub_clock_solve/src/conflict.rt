@@ -7,8 +7,8 @@ ghost use Rattle.clock_terms.specs.Clocking.{Held, SourceHolds, RelationHolds};
 ghost use Rattle.clock_spread.specs.Found.{IsFineFound, Agree, NoneLost, class_in, HasEnds};
 ghost use Rattle.clock_spread.specs.Turn.{AreProper, said_by};
 ghost use Rattle.clock_spread.specs.Least.{IsLeastOf, IsNumberIn};
-ghost use Rattle.sub_clock_solve.specs.Given.{IsSource, AreSources};
-ghost use Rattle.sub_clock_solve.specs.Failing.{Differs, FailsGiven, kept_grid};
+ghost use Rattle.sub_clock_solve.specs.private.Given.{IsSource, AreSources};
+ghost use Rattle.sub_clock_solve.specs.private.Failing.{Differs, FailsGiven, kept_grid};
 
 use crate::given::Given;
 use clock_spread::{Found, are_same, is_factor_given, is_related, lesser};

@@ -5,7 +5,7 @@ ghost use Rattle.clock_spread.specs.Found.{IsFineFound, found_of};
 ghost use Rattle.clock_spread.specs.Queue.{marked};
 ghost use Rattle.clock_spread.specs.Least.{IsLeastOf};
 ghost use Rattle.sub_clock_solve.specs.Grain.{own_denominators, denominators, IsGrain};
-ghost use Rattle.sub_clock_solve.specs.Gathering.{kept_of, kept_grids};
+ghost use Rattle.sub_clock_solve.specs.private.Gathering.{kept_of, kept_grids};
 
 use clock_spread::Found;
 use clock_terms::Grid;

@@ -2,7 +2,7 @@
 ghost use Rattle.std.specs.Prelude.{◌≡◌, ◌^◌, ◌<◌, ◌+◌, ℕ, All, List, IfOk, OnOk, MatchOption};
 ghost use Rattle.clock_terms.specs.Source.{kind_of, sources_of};
 ghost use Rattle.sub_clock_solve.specs.Standing.{IsGivenClock};
-ghost use Rattle.sub_clock_solve.specs.Given.{AreSources, GivesNone, GivesGrid, IsStep};
+ghost use Rattle.sub_clock_solve.specs.private.Given.{AreSources, GivesNone, GivesGrid, IsStep};
 
 use clock_terms::{Constructor, Grid};
 use flat_model::ClockExpr;

@@ -1,4 +1,6 @@
 use std::alloc::AllocError;
+use std::error::Error;
+use std::fmt;
 
 /// Why the clocks of the rounds are not those of a model.
 #[derive(Clone, Copy, Debug)]
@@ -11,6 +13,22 @@ pub enum SolveEnd {
     Conflict { equation: u32 },
     NoMemory,
 }
+
+impl fmt::Display for SolveEnd {
+    fn fmt<W: fmt::Write>(&self, f: &mut fmt::Formatter<W>) -> fmt::Result {
+        match self {
+            SolveEnd::Unknown { class } => write!(f, "class {class} has no clock"),
+            SolveEnd::TooFine { class } => write!(f, "the clock of class {class} is too fine"),
+            SolveEnd::Conflict { equation } => write!(
+                f,
+                "a conflict at equation {equation}, counted from 0"
+            ),
+            SolveEnd::NoMemory => write!(f, "no memory"),
+        }
+    }
+}
+
+impl Error for SolveEnd {}
 
 impl From<AllocError> for SolveEnd {
     ghost use Rattle.std.specs.Prelude.{◌≡◌};

@@ -4,8 +4,8 @@ ghost use Rattle.clock_terms.specs.Position.{IsFine};
 ghost use Rattle.clock_terms.specs.Source.{Source};
 ghost use Rattle.clock_spread.specs.Found.{IsFineFound, Agree, NoneLost, found_of};
 ghost use Rattle.clock_spread.specs.Queue.{marked};
-ghost use Rattle.sub_clock_solve.specs.Given.{AreSources};
-ghost use Rattle.sub_clock_solve.specs.Seeding.{seeded_at, start_of};
+ghost use Rattle.sub_clock_solve.specs.private.Given.{AreSources};
+ghost use Rattle.sub_clock_solve.specs.private.Seeding.{seeded_at, start_of};
 
 use crate::given::Given;
 use clock_spread::Found;

@@ -5,11 +5,11 @@ ghost use Rattle.clock_terms.specs.Source.{Source, sources_of};
 ghost use Rattle.clock_spread.specs.Found.{IsFineFound, found_of, HasEnds};
 ghost use Rattle.clock_spread.specs.Queue.{marked};
 ghost use Rattle.clock_spread.specs.Turn.{said_by, Settles};
-ghost use Rattle.sub_clock_solve.specs.Given.{AreSources};
+ghost use Rattle.sub_clock_solve.specs.private.Given.{AreSources};
 ghost use Rattle.sub_clock_solve.specs.Solving.{Solves};
 ghost use Rattle.sub_clock_solve.specs.Standing.{FitTogether, HaveClasses};
-ghost use Rattle.sub_clock_solve.specs.Seeding.{start_of};
-ghost use Rattle.sub_clock_solve.specs.Spreading.{IsSpread};
+ghost use Rattle.sub_clock_solve.specs.private.Seeding.{start_of};
+ghost use Rattle.sub_clock_solve.specs.private.Spreading.{IsSpread};
 
 use crate::conflict::conflict;
 use crate::gather::{first_coarse, first_unknown, gathered};

@@ -4,13 +4,13 @@ use Rattle.std.proofs.Common.{Contains, ◌≡◌, refl, sym, subst, ap, ◌∙�
 use Rattle.rational_time.specs.declared.ratio.Ratio.{Ratio}
 use Rattle.flat_model.specs.declared.clock.Clock.{Clock}
 use Rattle.tick_tree.specs.Tree.{IsTree, leaf_of}
-use Rattle.tick_plan.specs.Grid.{AreUnits, CountsTo, HaveFactors, IsScaled}
-use Rattle.tick_plan.specs.Axis.{IsKey, IsLimit, IsPlaced}
+use Rattle.tick_plan.specs.private.Grid.{AreUnits, CountsTo, HaveFactors, IsScaled}
+use Rattle.tick_plan.specs.private.Axis.{IsKey, IsLimit, IsPlaced}
 use Rattle.flat_model.specs.Tables.{AreTimes, IsTime}
-use Rattle.tick_plan.specs.Fraction.{IsWhole}
+use Rattle.tick_plan.specs.private.Fraction.{IsWhole}
 use Rattle.tick_plan.specs.Making.{AreCountable, IsCommonOf}
-use Rattle.tick_plan.specs.Course.{IsRisingFromZero, IsPeriodic}
-use Rattle.tick_plan.specs.Leaves.{IsLeafOf, leaf_at}
+use Rattle.tick_plan.specs.private.Course.{IsRisingFromZero, IsPeriodic}
+use Rattle.tick_plan.specs.private.Leaves.{IsLeafOf, leaf_at}
 use Rattle.tick_plan.specs.NewPlan.{IsFirstCourse}
 use Rattle.tick_plan.specs.declared.course.Course.{Course}
 use Rattle.tick_plan.specs.declared.leaves.Leaf.{Leaf}

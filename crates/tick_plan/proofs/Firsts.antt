@@ -6,8 +6,8 @@ use Rattle.tick_plan.specs.declared.axis.Axis.{Axis}
 use Rattle.flat_model.specs.NextInstant.{IsAfter, AreUnitsAfter}
 use Rattle.tick_tree.specs.Tree.{leaf_of}
 use Rattle.tick_tree.proofs.Roots.{root_least, attained}
-use Rattle.tick_plan.specs.Course.{IsTickOf, TickAhead}
-use Rattle.tick_plan.specs.Axis.{IsAxis}
+use Rattle.tick_plan.specs.private.Course.{IsTickOf, TickAhead}
+use Rattle.tick_plan.specs.private.Axis.{IsAxis}
 use Rattle.tick_plan.proofs.Keys.{tick_in_units, units_are_tick, after_units, units_after}
 
 -- an instant of u units that is within the stop, and back

@@ -6,10 +6,10 @@ use Rattle.flat_model.specs.Clocks.{is_tick}
 use Rattle.flat_model.specs.declared.clock.Clock.TheVariants.{Periodic, Event}
 use Rattle.flat_model.specs.declared.clock.Moment.TheVariants.{At}
 use Rattle.tick_plan.specs.declared.course.Course.{Course}
-use Rattle.tick_plan.specs.Axis.{IsLimit}
-use Rattle.tick_plan.specs.Course.{IsWithin}
-use Rattle.tick_plan.specs.Fraction.{IsWhole}
-use Rattle.tick_plan.specs.Grid.{CountsTo, grid_tick}
+use Rattle.tick_plan.specs.private.Axis.{IsLimit}
+use Rattle.tick_plan.specs.private.Course.{IsWithin}
+use Rattle.tick_plan.specs.private.Fraction.{IsWhole}
+use Rattle.tick_plan.specs.private.Grid.{CountsTo, grid_tick}
 use Rattle.tick_plan.proofs.FirstPlaces.{units_are}
 use Rattle.tick_plan.proofs.Fractions.{limit_some, step_above}
 use Rattle.tick_plan.proofs.Gridded.{grid_law}

@@ -13,10 +13,10 @@ use Rattle.flat_model.specs.declared.clock.Moment.{Moment}
 use Rattle.flat_model.specs.declared.clock.Moment.TheVariants.{Initial, At}
 use Rattle.flat_model.specs.NextInstant.{IsNext}
 use Rattle.tick_plan.specs.declared.course.Course.{Course}
-use Rattle.tick_plan.specs.Axis.{IsKey, IsLimit}
-use Rattle.tick_plan.specs.Course.{IsRow, IsPeriodic, IsTickOf, IsTickIn, IsFirstOf, IsWithin, TickAhead, earlier_of}
-use Rattle.tick_plan.specs.Fraction.{IsWhole}
-use Rattle.tick_plan.specs.Grid.{AreUnits, IsBeforeLimit}
+use Rattle.tick_plan.specs.private.Axis.{IsKey, IsLimit}
+use Rattle.tick_plan.specs.private.Course.{IsRow, IsPeriodic, IsTickOf, IsTickIn, IsFirstOf, IsWithin, TickAhead, earlier_of}
+use Rattle.tick_plan.specs.private.Fraction.{IsWhole}
+use Rattle.tick_plan.specs.private.Grid.{AreUnits, IsBeforeLimit}
 use Rattle.tick_plan.specs.Making.{IsCommonOf}
 use Rattle.tick_plan.proofs.Firsts.{within_units, units_within}
 use Rattle.tick_plan.proofs.Keys.{tick_in_units, units_are_tick, after_units, units_after}

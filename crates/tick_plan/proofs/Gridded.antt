@@ -13,10 +13,10 @@ use Rattle.flat_model.specs.declared.clock.Clock.{Clock}
 use Rattle.flat_model.specs.declared.clock.Clock.TheVariants.{Periodic, Event}
 use Rattle.flat_model.specs.declared.clock.Moment.TheVariants.{At}
 use Rattle.tick_plan.specs.declared.axis.Axis.{Axis}
-use Rattle.tick_plan.specs.Axis.{IsAxis, IsSameAxis}
+use Rattle.tick_plan.specs.private.Axis.{IsAxis, IsSameAxis}
 use Rattle.tick_plan.proofs.Untold.{known, known₃}
-use Rattle.tick_plan.specs.Grid.{AreUnits, grid_tick, IsScaled}
-use Rattle.tick_plan.specs.Course.{IsWithin}
+use Rattle.tick_plan.specs.private.Grid.{AreUnits, grid_tick, IsScaled}
+use Rattle.tick_plan.specs.private.Course.{IsWithin}
 use Rattle.tick_plan.proofs.Keys.{tick_units, units_tick}
 use Rattle.tick_plan.proofs.Firsts.{units_within}
 

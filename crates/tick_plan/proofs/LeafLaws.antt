@@ -9,9 +9,9 @@ use Rattle.std.proofs.lemmas.Option.{same_Some}
 use Rattle.rational_time.specs.declared.ratio.Ratio.{Ratio}
 use Rattle.flat_model.specs.declared.clock.Clock.{Clock}
 use Rattle.flat_model.specs.declared.clock.Clock.TheVariants.{Periodic}
-use Rattle.tick_plan.specs.Course.{IsPeriodic}
-use Rattle.tick_plan.specs.Grid.{AreUnits, CountsTo}
-use Rattle.tick_plan.specs.Leaves.{IsLeafOf, leaf_at}
+use Rattle.tick_plan.specs.private.Course.{IsPeriodic}
+use Rattle.tick_plan.specs.private.Grid.{AreUnits, CountsTo}
+use Rattle.tick_plan.specs.private.Leaves.{IsLeafOf, leaf_at}
 use Rattle.tick_plan.specs.Making.{AreCountable}
 use Rattle.tick_plan.specs.declared.leaves.Leaf.{Leaf}
 use Rattle.tick_plan.proofs.Growing.{last_or_before, before_end, at_end, only_one}

@@ -8,7 +8,7 @@ use Rattle.flat_model.specs.Plan.{rows_within}
 use Rattle.flat_model.specs.NextInstant.{AreLeft}
 use Rattle.flat_model.proofs.InstantsExist.{left_are}
 use Rattle.tick_plan.specs.declared.course.Course.{Course}
-use Rattle.tick_plan.specs.Course.{IsWithin}
+use Rattle.tick_plan.specs.private.Course.{IsWithin}
 use Rattle.tick_plan.specs.Left.{HasLeft, HasLeft-prop, AreFew, seen}
 use Rattle.tick_plan.specs.NewPlan.{AreFewEnough, IsFirstCourse}
 use Rattle.tick_plan.specs.Plans.{IsNewPlan, moments_of}

@@ -2,8 +2,8 @@
 use Rattle.std.proofs.Common.{◌≡◌, subst, ap, ◌∙◌, ℕ, zero, suc, ◌+◌, ◌-◌, ◌*◌, ◌/◌, ◌%◌, ◌<◌, ◌≤◌, ◌⊎◌, ⊎_elim, min, Some, arith, div-add-mod', mul-le-mul_right, lt_of_mul-lt-mul_right}
 use Rattle.rational_time.specs.declared.ratio.Ratio.{Ratio}
 use Rattle.flat_model.specs.declared.clock.Moment.TheVariants.{At}
-use Rattle.tick_plan.specs.Axis.{IsKey}
-use Rattle.tick_plan.specs.Grid.{AreUnits}
+use Rattle.tick_plan.specs.private.Axis.{IsKey}
+use Rattle.tick_plan.specs.private.Grid.{AreUnits}
 
 -- a number is between its floored quotient and the next, in divisors
 floor_of : (a b : ℕ) → 0 < b → (a / b * b ≤ a) × (a < (a / b + 1) * b)

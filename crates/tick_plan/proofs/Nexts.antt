@@ -10,7 +10,7 @@ use Rattle.flat_model.specs.declared.clock.Clock.TheVariants.{Periodic, Event}
 use Rattle.flat_model.specs.declared.clock.Moment.{Moment}
 use Rattle.flat_model.specs.Moments.{IsDue, TicksAt}
 use Rattle.tick_plan.specs.declared.course.Course.{Course}
-use Rattle.tick_plan.specs.Course.{AreRows, IsRowOf, IsTickOf, IsFirstOf, RowAhead, TickAhead, NextIs, earlier_of}
+use Rattle.tick_plan.specs.private.Course.{AreRows, IsRowOf, IsTickOf, IsFirstOf, RowAhead, TickAhead, NextIs, earlier_of}
 
 -- an element by its place
 placed : {A : Type 0} (xs : List A) (k : ℕ) (x : A) → k < length xs → get_or xs k x ≡ x → slice_get xs k ≡ Some x

@@ -10,8 +10,8 @@ use Rattle.tick_plan.specs.declared.axis.Axis.{Axis}
 use Rattle.flat_model.specs.NextInstant.{IsAfter, IsNext}
 use Rattle.tick_tree.specs.Tree.{IsTree, leaf_of}
 use Rattle.tick_plan.specs.declared.course.Course.{Course}
-use Rattle.tick_plan.specs.Course.{IsRow}
-use Rattle.tick_plan.specs.Axis.{IsKey, IsPlaced, IsAxis, passed_key}
+use Rattle.tick_plan.specs.private.Course.{IsRow}
+use Rattle.tick_plan.specs.private.Axis.{IsKey, IsPlaced, IsAxis, passed_key}
 use Rattle.tick_plan.proofs.Keys.{units_after, key_stays, key_moves}
 use Rattle.flat_model.proofs.Ratios.{ratio_of}
 use Rattle.tick_tree.proofs.Roots.{root_least}

@@ -5,7 +5,7 @@ use Rattle.flat_model.specs.declared.clock.Clock.{Clock}
 use Rattle.flat_model.specs.declared.clock.Clock.TheVariants.{Periodic, Event}
 use Rattle.flat_model.specs.declared.clock.Clocking.{Clocking}
 use Rattle.flat_model.specs.Runnable.{AreClocks, CanRun}
-use Rattle.tick_plan.specs.Grid.{HaveFactors}
+use Rattle.tick_plan.specs.private.Grid.{HaveFactors}
 use Rattle.tick_plan.specs.Making.{AreCountable, IsCommonOf}
 use Rattle.tick_plan.proofs.Commons.{common_of}
 

@@ -10,7 +10,7 @@ use Rattle.flat_model.specs.declared.clock.Moment.TheVariants.{Initial, At}
 use Rattle.flat_model.specs.NextInstant.{IsAfter, IsNext}
 use Rattle.flat_model.proofs.InstantsLeft.{later_after}
 use Rattle.tick_plan.specs.declared.course.Course.{Course}
-use Rattle.tick_plan.specs.Course.{AreRows, IsRow, IsRowOf, RowAhead}
+use Rattle.tick_plan.specs.private.Course.{AreRows, IsRow, IsRowOf, RowAhead}
 use Rattle.tick_plan.proofs.Nexts.{row_due}
 
 after_same : (given : Option Moment) (t u : Ratio) → Same t u → IsAfter given t → IsAfter given u

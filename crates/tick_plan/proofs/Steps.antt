@@ -9,8 +9,8 @@ use Rattle.flat_model.specs.NextInstant.{AreLeft}
 use Rattle.flat_model.proofs.InstantsLeft.{next_first, none_left, rest_left}
 use Rattle.tick_plan.specs.declared.axis.Axis.{Axis}
 use Rattle.tick_plan.specs.declared.course.Course.{Course}
-use Rattle.tick_plan.specs.Axis.{IsKey, IsPlaced, IsSound}
-use Rattle.tick_plan.specs.Course.{IsSameCourse, IsWithin, NextIs}
+use Rattle.tick_plan.specs.private.Axis.{IsKey, IsPlaced, IsSound}
+use Rattle.tick_plan.specs.private.Course.{IsSameCourse, IsWithin, NextIs}
 use Rattle.tick_plan.specs.Left.{ahead_of, StepsOn}
 use Rattle.tick_plan.proofs.Untold.{lift, known₂}
 

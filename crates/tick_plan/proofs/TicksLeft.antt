@@ -11,8 +11,8 @@ use Rattle.flat_model.specs.NextInstant.{IsAfter, AreLeft}
 use Rattle.flat_model.proofs.InstantsLeft.{same_ratio}
 use Rattle.flat_model.proofs.Ratios.{ratio_of}
 use Rattle.tick_plan.specs.declared.course.Course.{Course}
-use Rattle.tick_plan.specs.Axis.{IsKey, IsLimit}
-use Rattle.tick_plan.specs.Course.{IsTickIn}
+use Rattle.tick_plan.specs.private.Axis.{IsKey, IsLimit}
+use Rattle.tick_plan.specs.private.Course.{IsTickIn}
 use Rattle.tick_plan.specs.Left.{ahead_of, seen}
 use Rattle.tick_plan.specs.Making.{IsLeastMultiple}
 use Rattle.tick_plan.specs.NextTick.{IsTickLeft, NextTickIs}

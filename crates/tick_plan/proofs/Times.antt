@@ -6,7 +6,7 @@ use Rattle.rational_time.specs.Fraction.{Below}
 use Rattle.rational_time.proofs.Order.{cross_lt_le_trans}
 use Rattle.flat_model.specs.Moments.{IsRising}
 use Rattle.flat_model.specs.Tables.{AreTimes, StartAtZero}
-use Rattle.tick_plan.specs.Course.{IsRisingFromZero}
+use Rattle.tick_plan.specs.private.Course.{IsRisingFromZero}
 
 head_below : (t : Ratio) (ts : List Ratio) → IsRising (t ∷ ts) → (j : ℕ) (u : Ratio) → slice_get ts j ≡ Some u → Below t u
 head_below t [] up j u is = absurd (none-some u is)

@@ -6,7 +6,7 @@ use Rattle.flat_model.specs.declared.clock.Moment.TheVariants.{At}
 use Rattle.flat_model.specs.NextInstant.{AreLeft}
 use Rattle.flat_model.proofs.InstantsOnce.{one_list}
 use Rattle.tick_plan.specs.declared.course.Course.{Course}
-use Rattle.tick_plan.specs.Course.{IsWithin, IsSameCourse}
+use Rattle.tick_plan.specs.private.Course.{IsWithin, IsSameCourse}
 use Rattle.tick_plan.specs.Plans.{Planned, moments_of}
 
 -- the instants that are left, with a proof that is not shown

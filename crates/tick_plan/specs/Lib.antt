@@ -1,8 +1,3 @@
-pub mod Axis
-pub mod Course
-pub mod Fraction
-pub mod Grid
-pub mod Leaves
 pub mod Laws
 pub mod Left
 pub mod Making
@@ -11,3 +6,4 @@ pub mod NextTick
 pub mod Plans
 pub mod Seen
 pub mod SeenFractions
+pub mod private

@@ -1,8 +1,8 @@
 ghost use Rattle.std.specs.Prelude.{◌≡◌, ℕ, ◌+◌, ◌*◌, ◌<◌, ◌≤◌, ◌==◌, length, get_or, Some};
 ghost use Rattle.flat_model.specs.declared.clock.Moment.TheVariants.{At};
 ghost use Rattle.tick_tree.specs.Tree.{IsTree, leaf_of};
-ghost use Rattle.tick_plan.specs.Axis.{IsSound, IsSameAxis, passed_key};
-ghost use Rattle.tick_plan.specs.Course.{NextIs, TickAhead};
+ghost use Rattle.tick_plan.specs.private.Axis.{IsSound, IsSameAxis, passed_key};
+ghost use Rattle.tick_plan.specs.private.Course.{NextIs, TickAhead};
 
 use crate::axis::Axis;
 use crate::course::{earlier, row_after, row_ahead};

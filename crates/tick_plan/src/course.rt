@@ -1,7 +1,7 @@
 ghost use Rattle.std.specs.Prelude.{◌≡◌, Some};
 ghost use Rattle.rational_time.specs.Fraction.{at_most};
 ghost use Rattle.flat_model.specs.declared.clock.Moment.TheVariants.{At};
-ghost use Rattle.tick_plan.specs.Course.{AreRows, IsRow, RowAhead, NextIs, earlier_of};
+ghost use Rattle.tick_plan.specs.private.Course.{AreRows, IsRow, RowAhead, NextIs, earlier_of};
 
 use flat_model::{Clock, Moment};
 use rational_time::Ratio;

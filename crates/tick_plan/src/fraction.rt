@@ -2,8 +2,9 @@ ghost use Rattle.std.specs.Prelude.{◌≡◌, ◌*◌, ◌<◌, ◌^◌, Some, 
 ghost use Rattle.rational_time.specs.declared.ratio.Ratio.{Ratio};
 ghost use Rattle.rational_time.specs.Multiple.{HasMultipleBelow};
 ghost use Rattle.flat_model.specs.declared.clock.Moment.TheVariants.{At};
-ghost use Rattle.tick_plan.specs.Course.{IsFirstOf, IsTickIn, IsWithin, NextIs, TickAhead, IsSameCourse};
-ghost use Rattle.tick_plan.specs.Fraction.{IsWhole};
+ghost use Rattle.rational_time.specs.Fraction.{second_limit};
+ghost use Rattle.tick_plan.specs.private.Course.{IsFirstOf, IsTickIn, IsWithin, NextIs, TickAhead, IsSameCourse};
+ghost use Rattle.tick_plan.specs.private.Fraction.{IsWhole};
 ghost use Rattle.tick_plan.specs.Making.{IsCountable};
 
 use crate::common::with_clock;
@@ -17,7 +18,7 @@ use rational_time::{Ratio, make};
 fn first_tick(period: Ratio, start: Ratio, stop: Ratio, given: Option<Moment>) -> Option<Ratio>
     requires clock { IsCountable period start }
     requires grid { ∥ HasMultipleBelow (2 ^ 40) (1 ∷ period.den ∷ start.den ∷ []) ∥₁ }
-    requires early { stop.num < 2 ^ 20 * stop.den }
+    requires early { stop.num < second_limit * stop.den }
     requires within { ∥ IsWithin given stop ∥₁ }
     ensures { IsFirstOf (IsTickIn period start stop) given result }
 {

@@ -1,5 +1,5 @@
 ghost use Rattle.std.specs.Prelude.{◌≡◌, length};
-ghost use Rattle.tick_plan.specs.Fraction.{IsWhole};
+ghost use Rattle.tick_plan.specs.private.Fraction.{IsWhole};
 ghost use Rattle.tick_plan.specs.Left.{HasLeft, HasLeft-prop, AreFew};
 
 use crate::common::with_clock;

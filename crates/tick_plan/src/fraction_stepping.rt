@@ -1,7 +1,7 @@
 ghost use Rattle.std.specs.Prelude.{◌≡◌, List};
 ghost use Rattle.rational_time.specs.declared.ratio.Ratio.{Ratio};
 ghost use Rattle.flat_model.specs.NextInstant.{AreLeft};
-ghost use Rattle.tick_plan.specs.Fraction.{IsWhole};
+ghost use Rattle.tick_plan.specs.private.Fraction.{IsWhole};
 ghost use Rattle.tick_plan.specs.Left.{StepsOn};
 
 use crate::course::Course;

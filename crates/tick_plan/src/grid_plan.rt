@@ -1,8 +1,8 @@
 ghost use Rattle.std.specs.Prelude.{◌≡◌, length};
 ghost use Rattle.flat_model.specs.Runnable.{denominators};
-ghost use Rattle.tick_plan.specs.Axis.{IsAxis};
-ghost use Rattle.tick_plan.specs.Course.{IsWithin};
-ghost use Rattle.tick_plan.specs.Grid.{IsScaled};
+ghost use Rattle.tick_plan.specs.private.Axis.{IsAxis};
+ghost use Rattle.tick_plan.specs.private.Course.{IsWithin};
+ghost use Rattle.tick_plan.specs.private.Grid.{IsScaled};
 ghost use Rattle.tick_plan.specs.Left.{HasLeft, HasLeft-prop, AreFew};
 ghost use Rattle.tick_plan.specs.Making.{IsLeastMultiple};
 

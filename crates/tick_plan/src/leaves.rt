@@ -2,9 +2,9 @@ ghost use Rattle.std.specs.Prelude.{◌≡◌, ℕ, ◌<◌, ◌≤◌, length, 
 ghost use Rattle.std.specs.Int.{◌∣◌};
 ghost use Rattle.rational_time.specs.declared.ratio.Ratio.{Ratio};
 ghost use Rattle.flat_model.specs.declared.clock.Clock.TheVariants.{Periodic};
-ghost use Rattle.tick_plan.specs.Course.{IsPeriodic};
-ghost use Rattle.tick_plan.specs.Grid.{CountsTo, IsScaled, HaveFactors};
-ghost use Rattle.tick_plan.specs.Leaves.{IsLeafOf, leaf_at};
+ghost use Rattle.tick_plan.specs.private.Course.{IsPeriodic};
+ghost use Rattle.tick_plan.specs.private.Grid.{CountsTo, IsScaled, HaveFactors};
+ghost use Rattle.tick_plan.specs.private.Leaves.{IsLeafOf, leaf_at};
 ghost use Rattle.tick_plan.specs.Making.{IsCommon, AreCountable};
 ghost use Rattle.tick_plan.specs.declared.leaves.Leaf.{Leaf};
 

@@ -1,13 +1,14 @@
 ghost use Rattle.std.specs.Prelude.{◌≡◌, ℕ, ◌+◌, ◌*◌, ◌/◌, ◌<◌, ◌≤◌, ◌↔◌, ◌^◌, length, get_or, min, IfOk};
 ghost use Rattle.std.specs.Int.{◌∣◌};
-ghost use Rattle.tick_plan.specs.Axis.{IsLimit};
-ghost use Rattle.tick_plan.specs.Grid.{CountsTo};
+ghost use Rattle.rational_time.specs.Fraction.{second_limit};
+ghost use Rattle.tick_plan.specs.private.Axis.{IsLimit};
+ghost use Rattle.tick_plan.specs.private.Grid.{CountsTo};
 
 use rational_time::Ratio;
 
 /// The first number of units past the stop.
 pub(crate) fn limit_of(stop: Ratio, den: u64) -> u64
-    requires early { stop.num < 2 ^ 20 * stop.den }
+    requires early { stop.num < second_limit * stop.den }
     requires grain { den < 2 ^ 40 }
     ensures limit { IsLimit den stop result }
     ensures small { result < 2 ^ 61 }

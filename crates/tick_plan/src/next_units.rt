@@ -1,8 +1,8 @@
 ghost use Rattle.std.specs.Prelude.{◌≡◌, ◌*◌, ◌<◌, ◌≤◌, ◌^◌, Some};
 ghost use Rattle.rational_time.specs.declared.ratio.Ratio.{Ratio};
 ghost use Rattle.flat_model.specs.declared.clock.Moment.TheVariants.{At};
-ghost use Rattle.tick_plan.specs.Axis.{IsKey};
-ghost use Rattle.tick_plan.specs.Grid.{AreUnits, IsBeforeLimit};
+ghost use Rattle.tick_plan.specs.private.Axis.{IsKey};
+ghost use Rattle.tick_plan.specs.private.Grid.{AreUnits, IsBeforeLimit};
 
 use flat_model::Moment;
 use rational_time::Ratio;

@@ -1,7 +1,7 @@
 ghost use Rattle.std.specs.Prelude.{◌≡◌, ◌<◌, IfOk};
 ghost use Rattle.flat_model.specs.Tables.{AreTimes};
-ghost use Rattle.tick_plan.specs.Axis.{IsLimit, IsSound};
-ghost use Rattle.tick_plan.specs.Grid.{IsScaled};
+ghost use Rattle.tick_plan.specs.private.Axis.{IsLimit, IsSound};
+ghost use Rattle.tick_plan.specs.private.Grid.{IsScaled};
 ghost use Rattle.tick_plan.specs.NewPlan.{IsFirstCourse};
 
 use crate::axis::Axis;

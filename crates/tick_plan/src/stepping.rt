@@ -1,7 +1,7 @@
 ghost use Rattle.std.specs.Prelude.{◌≡◌, List, ◌<◌};
 ghost use Rattle.rational_time.specs.declared.ratio.Ratio.{Ratio};
 ghost use Rattle.flat_model.specs.NextInstant.{AreLeft};
-ghost use Rattle.tick_plan.specs.Axis.{IsSound, IsSameAxis};
+ghost use Rattle.tick_plan.specs.private.Axis.{IsSound, IsSameAxis};
 ghost use Rattle.tick_plan.specs.Left.{StepsOn};
 
 use crate::ahead::{next_instant, pass};

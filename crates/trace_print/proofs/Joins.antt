@@ -7,7 +7,7 @@ use Rattle.flat_model.specs.declared.expression.Expr.TheVariants.{If, Sample}
 use Rattle.flat_model.specs.declared.clock.ClockExpr.{ClockExpr}
 use Rattle.trace_print.proofs.Texts.{text-If, text-Sample_on}
 use Rattle.flat_model.specs.declared.model.FlatName.{FlatName}
-use Rattle.trace_print.specs.Openings.{openings}
+use Rattle.trace_print.specs.private.Openings.{openings}
 use Rattle.trace_print.specs.Printed.{expr_text, clock_text, separated, grouped, chain_text, choices, op_text}
 use Rattle.trace_print.proofs.Cells.{left_at}
 

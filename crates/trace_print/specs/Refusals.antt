@@ -5,6 +5,10 @@ use Rattle.flat_model.specs.declared.place.Place.TheVariants.{At, Equation, Name
 use Rattle.trace_print.specs.declared.code.Code.{Code}
 use Rattle.trace_print.specs.declared.code.Code.TheVariants.{L0, L1, L2, L3, L4, S1, S2, S3, N1, N2, N3, N4, N5, N6, N7, N8, N9, N10, N11, Y1, Y2, Y3, Y4, Y5, C1, C2, C3, C4, C5, C6, C7, C8, C9, C10, Q1, Q2, Q3, Q4, I1, I2, I3, I4, I5, I6, I7, P1}
 
+-- how many bytes the line of a refusal or a fault has at most
+abbrev pub line_limit : ℕ
+line_limit = 4608
+
 -- a code is its own text
 abbrev pub code_text : Code → List ℕ
 code_text L0 = codes "L0"

@@ -2,7 +2,7 @@ ghost use Rattle.std.specs.Prelude.{◌≡◌, ◌+◌, ◌≤◌, ◌<◌, ◌^
 ghost use Rattle.rational_time.specs.Fraction.{instant_text};
 ghost use Rattle.flat_model.specs.Runs.{fault_line, kind_text, moment_text};
 ghost use Rattle.flat_model.specs.Runs as runs;
-ghost use Rattle.trace_print.specs.Refusals.{place_text, refusal_line, IsShort};
+ghost use Rattle.trace_print.specs.Refusals.{place_text, refusal_line, IsShort, line_limit};
 
 use crate::code::Code;
 use flat_model::{Fault, FaultPlace, Moment, Place};
@@ -11,10 +11,13 @@ use rational_time::Ratio;
 use std::marker::Model;
 use sync_values::Fail;
 
+/// The most bytes of a line.
+const LINE_LEN: usize = 4_608;
+
 /// A line of at most 4,608 bytes, without memory of its own.
 #[derive(Drop)]
 pub struct ErrLine {
-    text: [u8; 4608],
+    text: [u8; LINE_LEN],
     len: usize,
 }
 
@@ -23,7 +26,7 @@ impl Model for ErrLine {
 
     ghost view = { λ s. take s.len s.text };
 
-    ghost invariant = { λ s. s.len ≤ 4608 };
+    ghost invariant = { λ s. s.len ≤ line_limit };
 }
 
 /// The line of a broken rule, `refused CODE at PLACE`. Places are printed from 1. The condition is that a name in the
@@ -71,7 +74,7 @@ impl ErrLine {
         ensures { result ≡ [] }
     {
         ErrLine {
-            text: [0; 4608],
+            text: [0; LINE_LEN],
             len: 0,
         }
     }
@@ -141,7 +144,7 @@ impl ErrLine {
     }
 
     fn add_number(&mut self, number: u32)
-        requires { length self.old + 10 ≤ 4608 }
+        requires { length self.old + 10 ≤ line_limit }
         ensures text { self.new ≡ self.old ++ decimal number }
         ensures len { length self.new ≤ length self.old + 10 }
     {
@@ -151,7 +154,7 @@ impl ErrLine {
 
     /// Adds a number that counts from 0, as it is printed from 1.
     fn add_next(&mut self, number: u32)
-        requires { length self.old + 20 ≤ 4608 }
+        requires { length self.old + 20 ≤ line_limit }
         ensures text { self.new ≡ self.old ++ decimal (number + 1) }
         ensures len { length self.new ≤ length self.old + 20 }
     {
@@ -160,7 +163,7 @@ impl ErrLine {
     }
 
     fn add_instant(&mut self, at: Ratio)
-        requires { length self.old + 41 ≤ 4608 }
+        requires { length self.old + 41 ≤ line_limit }
         ensures text { self.new ≡ self.old ++ instant_text at }
         ensures len { length self.new ≤ length self.old + 41 }
     {
@@ -174,7 +177,7 @@ impl ErrLine {
     }
 
     fn add(&mut self, piece: &[u8])
-        requires { length self.old + length piece.now ≤ 4608 }
+        requires { length self.old + length piece.now ≤ line_limit }
         ensures { self.new ≡ self.old ++ piece.now }
     {
         for byte in piece {
@@ -183,7 +186,7 @@ impl ErrLine {
     }
 
     fn push(&mut self, byte: u8)
-        requires { length self.old + 1 ≤ 4608 }
+        requires { length self.old + 1 ≤ line_limit }
         ensures { self.new ≡ self.old ++ byte ∷ [] }
     {
         self.text[self.len] = byte;

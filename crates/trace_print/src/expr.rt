@@ -1,6 +1,6 @@
 //! The texts of expressions, and of expressions for clocks.
 ghost use Rattle.std.specs.Prelude.{◌≡◌, ◌++◌, ◌∷◌, [], OnOk, codes, map, min};
-ghost use Rattle.trace_print.specs.Openings.{openings};
+ghost use Rattle.trace_print.specs.private.Openings.{openings};
 ghost use Rattle.trace_print.specs.Printed.{expr_text, clock_text, call_text, chain_text, choices, fun_text, separated};
 
 use crate::put::{

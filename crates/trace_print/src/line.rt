@@ -3,13 +3,12 @@ ghost use Rattle.flat_model.specs.Models.{IsName, size_limit};
 ghost use Rattle.flat_model.specs.Trace.{is_column, columns_of, header_text, row_text};
 ghost use Rattle.trace_print.specs.Room.{Room, row_len};
 
-use crate::no_memory::NoMemory;
 use crate::piece::{add, add_cell, add_instant};
 use flat_model::{FlatModel, FlatName, NameKind};
 use rational_time::Ratio;
 use std::alloc::Global;
 use std::marker::Model;
-use sync_values::Value;
+use sync_values::{NoMemory, Value};
 
 /// The bytes of an instant at most.
 const INSTANT_LEN: usize = 41;

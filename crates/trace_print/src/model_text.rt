@@ -3,10 +3,10 @@ ghost use Rattle.std.specs.Prelude.{◌≡◌, ◌++◌, OnOk, IfOk};
 ghost use Rattle.trace_print.specs.Modes.{input_text, start_text, kind_text, name_line, name_lines, when_text, equation_text, equation_line, equation_lines, flat_text};
 
 use crate::expr::{put_clock, put_expr};
-use crate::no_memory::NoMemory;
 use crate::put::{put, put_number, put_value};
 use flat_model::{Equation, FlatModel, FlatName, NameKind};
 use std::alloc::{AllocError, Global};
+use sync_values::NoMemory;
 
 /// Adds the start of a name, and whether it is an input.
 fn put_start(out: &mut Vec<u8>, name: &FlatName) -> Result<(), AllocError>

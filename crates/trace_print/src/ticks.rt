@@ -2,10 +2,10 @@
 ghost use Rattle.std.specs.Prelude.{◌≡◌, ◌++◌, OnOk, IfOk, slice_get};
 ghost use Rattle.trace_print.specs.Modes.{clock_in, ticks_text, clock_line, clock_lines, clocks_text};
 
-use crate::no_memory::NoMemory;
 use crate::put::{put, put_instant, put_number};
 use flat_model::{Clock, Clocking, FlatModel};
 use std::alloc::{AllocError, Global};
+use sync_values::NoMemory;
 
 /// The clock of a name by its number, if it has one.
 fn clock_of(clocking: &Clocking, x: usize) -> Option<Clock>

@@ -37,7 +37,7 @@ use Rattle.tree_step.specs.declared.cell.Standing.{Standing}
 use Rattle.tree_step.specs.declared.cell.Standing.TheVariants.{Ticks, Rests, Unknown}
 use Rattle.tree_step.specs.declared.taking.Entry.{Entry}
 use Rattle.tree_step.specs.Cells.{cell_in}
-use Rattle.tree_step.specs.Frames.{now_in, kept_in, last_by, last_in, told_length, frame_views}
+use Rattle.tree_step.specs.Frames.{now_in, kept_in, last_by, last_in, shown_length, frame_views}
 use Rattle.tree_step.specs.Starts.{Sight, use_of, uses_of, IsAmong, KeepsLast, StandsAs, IsSideSeen, AreSidesSeen, IsEntry, IsStart}
 use Rattle.tree_step.specs.Takes.{IsSameCell}
 use Rattle.tree_step.specs.private.Lacking.{is_missing, may_tick, is_open_in, is_unsettled, expr_lacks}
@@ -328,7 +328,7 @@ module _ (s : Setting) (uses before after : List Use) (S : Assignment) (m : ℕ)
           by_tick true tick = (has z (λ same. own_last (subst (AsksLastIn side) same (inr some)))).converted some (meet_where_tick s A m class (class_of_name s z) (cut.converted z some).axis ticks tick)
           by_tick false rest = inl (known_axis s A m (clock_of s class) (clock_of s (class_of_name s z)) (cut.converted z some).axis (known_where_ticks s A m class ticks), rest)
 
-      -- what is told of the clock, where the class is one that asks for it
+      -- what is shown of the clock, where the class is one that asks for it
       module _ (ticks : class_ticks s A class m ≡ true) (has : (y : ℕ) → y ≢ x → HasReadIn s A m i side y) (told_first : 0 < asked side 0 OfFirst → (c : ℕ) × (class ≡ Some c)) (told_interval : 0 < asked side 0 OfInterval → (c : ℕ) × (class ≡ Some c)) where
         told_ticks : is.clock.ticks ≡ true
         told_ticks = clock_ticks ∙ ticks
@@ -350,7 +350,7 @@ module _ (s : Setting) (uses before after : List Use) (S : Assignment) (m : ℕ)
             (is.told.first c c_is told_ticks ∙ ap is_none (tick_before_same (class_ticks s S class) (class_ticks s A class) m (λ j lt. ticks_earlier class j lt)))
         side_shown zero OfInterval some other =
             let (c, c_is) = told_interval some in
-            subst (λ k. told_length is.clock.first is.clock.interval ≡ interval_at s (class_ticks s A class) k (clock_of s class)) here
+            subst (λ k. shown_length is.clock.first is.clock.interval ≡ interval_at s (class_ticks s A class) k (clock_of s class)) here
             (is.told.interval c c_is told_ticks ∙ interval_same s (class_ticks s S class) (class_ticks s A class) m (clock_of s class) (λ j lt. ticks_earlier class j lt))
         side_shown (suc d) q some other =
             let plain = asked_before side cut.plain d q some in

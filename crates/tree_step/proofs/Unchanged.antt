@@ -7,7 +7,7 @@ use Rattle.sync_values.specs.declared.value.Value.{Value}
 use Rattle.flat_model.specs.declared.equation.Equation.{Equation}
 use Rattle.flat_model.specs.declared.equation.Equation.TheVariants.{Valued}
 use Rattle.flat_model.specs.declared.expression.Expr.{Expr}
-use Rattle.flat_model.specs.Answers.{value_in}
+use Rattle.flat_model.specs.Values.{value_in}
 use Rattle.flat_model.specs.Asks.{Asking, OfNow, OfLast, OfPrevious, OfFirst, OfInterval, asked, IsSampled}
 use Rattle.flat_model.specs.Assignment.{Assignment, previous_value}
 use Rattle.flat_model.specs.Given.{Row, with_row}
@@ -28,7 +28,7 @@ use Rattle.tree_step.specs.declared.cell.Cell.{Cell}
 use Rattle.tree_step.specs.declared.changed.Reads.{Reads}
 use Rattle.tree_step.specs.declared.taking.Entry.{Entry}
 use Rattle.tree_step.specs.Cells.{cell_in}
-use Rattle.tree_step.specs.Changed.{TellSide, TellReads, IsValuesBefore, WereMet}
+use Rattle.tree_step.specs.Changed.{HasSideReads, HasReads, IsValuesBefore, WereMet}
 use Rattle.tree_step.specs.Frames.{now_in, last_by, last_in}
 use Rattle.tree_step.specs.Starts.{Sight, use_of, IsAmong, IsSideSeen, IsEntry, IsStart}
 use Rattle.tree_step.specs.private.Changed.{IsSame, IsResting, AreUnchanged}
@@ -50,7 +50,7 @@ not_true false e = refl
 module _ (s : Setting) (uses before after : List Use) (S : Assignment) (m : ℕ) (base : Row) (sight : Sight) (all : List Entry) (cells₀ : List Cell) (start : IsStart s uses before after S m base sight all cells₀)
     (unclocked_all : (entry : Entry) → IsAmong entry all → class_of_equation s entry.equation ≡ None) (left_is : IsValuesBefore S m sight.left.now) (were_met : WereMet s S m all)
     (e : Entry) (es : List Entry) (row : Row) (cells : List Cell) (turn : Turn s uses before after S m base sight all cells₀ start (e ∷ es) row cells)
-    (reads : Reads) (tell : (equation : Equation) → slice_get sight.equations e.equation ≡ Some equation → TellReads equation reads) (unchanged : AreUnchanged sight cells e.name reads) where
+    (reads : Reads) (tell : (equation : Equation) → slice_get sight.equations e.equation ≡ Some equation → HasReads equation reads) (unchanged : AreUnchanged sight cells e.name reads) where
   abbrev x : ℕ
   x = e.name
 
@@ -81,7 +81,7 @@ module _ (s : Setting) (uses before after : List Use) (S : Assignment) (m : ℕ)
   own_found : slice_get sight.equations e.equation ≡ Some own
   own_found = found_own s uses before after S m base sight all cells₀ start e es row cells turn
 
-  told_sides : TellSide of.left reads × TellSide of.right reads
+  told_sides : HasSideReads of.left reads × HasSideReads of.right reads
   told_sides = tell own own_found
 
   same_bare : (y : ℕ) → Contains reads.bare y → IsSame sight cells x y
@@ -96,7 +96,7 @@ module _ (s : Setting) (uses before after : List Use) (S : Assignment) (m : ℕ)
   settled z there = let (cell, cell_is, standing) = rests z there in
       unsettled_is sight.places cells z ∙ ap is_open_in cell_is ∙ ap (λ how. is_open_in (Some (record cell { standing = how }))) standing ∙ closed_rests cell.now
 
-  lacks_none : (side : Expr) → TellSide side reads → expr_lacks sight.places cells x side ≡ false
+  lacks_none : (side : Expr) → HasSideReads side reads → expr_lacks sight.places cells x side ≡ false
   lacks_none side tells = is_false _ (λ lacking. let (k, y, some, tie) = (told (is_missing sight.places cells x) (is_unsettled sight.places cells) side).some lacking in by_manner k y some tie)
     where
       by_manner : (k : Manner) (y : ℕ) → 0 < count_in k y side → ties (is_missing sight.places cells x) (is_unsettled sight.places cells) k y ≡ true → ⊥
@@ -127,13 +127,13 @@ module _ (s : Setting) (uses before after : List Use) (S : Assignment) (m : ℕ)
     left_value : (y : ℕ) → value_in sight.left.now y ≡ S y (k - 0)
     left_value y = left_is.later y k later ∙ ap (S y) here
 
-    same_now : (side : Expr) → TellSide side reads → (y : ℕ) → 0 < asked side 0 (OfNow y) → (with_now x v views 0).now y ≡ S y (k - 0)
+    same_now : (side : Expr) → HasSideReads side reads → (y : ℕ) → 0 < asked side 0 (OfNow y) → (with_now x v views 0).now y ≡ S y (k - 0)
     same_now side tells y some = elim (cases_eq y x) [
       | inl same ↦ ap (λ z. (with_now x v views 0).now z) same ∙ own_now x views v ∙ sym own_left ∙ ap (value_in sight.left.now) (sym same) ∙ left_value y
       | inr other ↦ let (u, now, left) = same_bare y (tells.0 y some) other in other_now x views v y other ∙ now ∙ sym left ∙ left_value y
     ]
 
-    same_last : (side : Expr) → IsSideSeen s S m base sight cells₀ is.clock side → TellSide side reads → (z : ℕ) → 0 < asked side 0 (OfLast z) → last_in (cell_in sight.places cells z) ≡ (there 0).last z
+    same_last : (side : Expr) → IsSideSeen s S m base sight cells₀ is.clock side → HasSideReads side reads → (z : ℕ) → 0 < asked side 0 (OfLast z) → last_in (cell_in sight.places cells z) ≡ (there 0).last z
     same_last side sees tells z some =
         let (cell, cell_is, standing) = rests z (tells.1 z some) in
         let (old, old_is, keeps, stands) = sees.last z some in
@@ -142,7 +142,7 @@ module _ (s : Setting) (uses before after : List Use) (S : Assignment) (m : ℕ)
         ap last_in cell_is ∙ ap (λ how. last_by how cell) standing ∙ ap (λ c. Some c.kept) (sym one) ∙ ap Some same.kept ∙ sym keeps
         ∙ ap (previous_value (name_ticks s S z) (S z) (start_of s z)) (later ∙ ap suc here)
 
-    same_at : (side : Expr) → IsSideClocked s e.equation side → IsSideSeen s S m base sight cells₀ is.clock side → TellSide side reads → (d : ℕ) (q : Asking) → 0 < asked side d q → SameAt (with_now x v views) there d q
+    same_at : (side : Expr) → IsSideClocked s e.equation side → IsSideSeen s S m base sight cells₀ is.clock side → HasSideReads side reads → (d : ℕ) (q : Asking) → 0 < asked side d q → SameAt (with_now x v views) there d q
     same_at side cut sees tells d q some =
         let (at, sampled) = left_asks side (cut.unclocked unclocked) d q some in
         subst (λ n. SameAt (with_now x v views) there n q) (sym at) (by_asking q sampled (subst (λ n. 0 < asked side n q) at some))

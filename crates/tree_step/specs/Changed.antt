@@ -4,7 +4,7 @@ use Rattle.sync_values.specs.declared.value.Value.{Value}
 use Rattle.flat_model.specs.declared.equation.Equation.{Equation}
 use Rattle.flat_model.specs.declared.equation.Equation.TheVariants.{Valued, Clocks}
 use Rattle.flat_model.specs.declared.expression.Expr.{Expr}
-use Rattle.flat_model.specs.Answers.{value_in}
+use Rattle.flat_model.specs.Values.{value_in}
 use Rattle.flat_model.specs.Asks.{AsksFor, OfNow, OfLast}
 use Rattle.flat_model.specs.Assignment.{Assignment}
 use Rattle.flat_model.specs.Given.{Row}
@@ -17,18 +17,18 @@ use Rattle.tree_step.specs.declared.taking.Entry.{Entry}
 use Rattle.tree_step.specs.Starts.{Sight, IsAmong, IsStart}
 
 -- all whose values a side asks for at the moment, and all whose last values it does
-abbrev pub TellSide : Expr → Reads → Type 0
-TellSide e reads = ((y : ℕ) → AsksFor e 0 (OfNow y) → Contains reads.bare y) × ((z : ℕ) → AsksFor e 0 (OfLast z) → Contains reads.held z)
+abbrev pub HasSideReads : Expr → Reads → Type 0
+HasSideReads e reads = ((y : ℕ) → AsksFor e 0 (OfNow y) → Contains reads.bare y) × ((z : ℕ) → AsksFor e 0 (OfLast z) → Contains reads.held z)
 
 -- the same of an equation
-abbrev pub TellReads : Equation → Reads → Type 0
-TellReads (Valued left right clause) reads = TellSide left reads × TellSide right reads
-TellReads (Clocks left right clause) reads = Unit {0}
+abbrev pub HasReads : Equation → Reads → Type 0
+HasReads (Valued left right clause) reads = HasSideReads left reads × HasSideReads right reads
+HasReads (Clocks left right clause) reads = Unit {0}
 
 -- in the place of each entry are the reads of its equation
 abbrev pub AreReadsOf : List Equation → List Entry → List Reads → Type 0
 AreReadsOf equations entries reads =
-    (i : ℕ) (entry : Entry) (own : Reads) (equation : Equation) → slice_get entries i ≡ Some entry → slice_get reads i ≡ Some own → slice_get equations entry.equation ≡ Some equation → TellReads equation own
+    (i : ℕ) (entry : Entry) (own : Reads) (equation : Equation) → slice_get entries i ≡ Some entry → slice_get reads i ≡ Some own → slice_get equations entry.equation ≡ Some equation → HasReads equation own
 
 -- the values at the moment before; before Initial there are none
 pub record IsValuesBefore (S : Assignment) (m : ℕ) (now : List (Option Value)) : Type 0 where

@@ -4,7 +4,7 @@ use Rattle.sync_values.specs.declared.value.Value.{Value}
 use Rattle.flat_model.specs.declared.clock.Elapsed.{Elapsed}
 use Rattle.flat_model.specs.declared.clock.Elapsed.TheVariants.{Period, Between}
 use Rattle.flat_model.specs.declared.table.Left.{Left}
-use Rattle.flat_model.specs.Answers.{value_in}
+use Rattle.flat_model.specs.Values.{value_in}
 use Rattle.flat_model.specs.Intervals.{length_of}
 use Rattle.flat_model.specs.Views.{Length, Views}
 use Rattle.tree_step.specs.declared.cell.Cell.{Cell}
@@ -33,16 +33,16 @@ abbrev pub last_in : Option Cell → Option Value
 last_in None = None
 last_in (Some cell) = last_by cell.standing cell
 
--- the interval that is told: that of a first tick is nothing
-abbrev pub told_elapsed : Bool → Elapsed → Elapsed
-told_elapsed first (Period period) = Period period
-told_elapsed true (Between t u) = Between u u
-told_elapsed false (Between t u) = Between t u
+-- the interval that is shown: that of a first tick is nothing
+abbrev pub shown_elapsed : Bool → Elapsed → Elapsed
+shown_elapsed first (Period period) = Period period
+shown_elapsed true (Between t u) = Between u u
+shown_elapsed false (Between t u) = Between t u
 
-abbrev pub told_length : Bool → Elapsed → Length
-told_length first (Period period) = length_of (Period period)
-told_length true (Between t u) = record { num = 0; den = 1 }
-told_length false (Between t u) = length_of (Between t u)
+abbrev pub shown_length : Bool → Elapsed → Length
+shown_length first (Period period) = length_of (Period period)
+shown_length true (Between t u) = record { num = 0; den = 1 }
+shown_length false (Between t u) = length_of (Between t u)
 
 -- what an equation can read: by the cells, and at the moment before by the values that were left
 abbrev pub frame_views : List ℕ → List Cell → Left → ClockNow → Views
@@ -51,7 +51,7 @@ frame_views places cells left clock zero = record {
   previous = λ x. kept_in (cell_in places cells x);
   last = λ x. last_in (cell_in places cells x);
   first = clock.first;
-  interval = told_length clock.first clock.interval;
+  interval = shown_length clock.first clock.interval;
 }
 frame_views places cells left clock (suc back) = record {
   now = λ x. value_in left.now x;

@@ -4,7 +4,7 @@ use Rattle.flat_model.specs.declared.equation.Equation.{Equation}
 use Rattle.flat_model.specs.declared.equation.Equation.TheVariants.{Valued, Clocks}
 use Rattle.flat_model.specs.declared.expression.Expr.{Expr}
 use Rattle.flat_model.specs.declared.table.Left.{Left}
-use Rattle.flat_model.specs.Answers.{value_in}
+use Rattle.flat_model.specs.Values.{value_in}
 use Rattle.flat_model.specs.Asks.{AsksFor, OfNow, OfLast, OfPrevious}
 use Rattle.flat_model.specs.Assignment.{Assignment, tick_before, previous_value}
 use Rattle.flat_model.specs.Given.{Row, with_row, IsKnown, IsKnownToTick}
@@ -22,7 +22,7 @@ use Rattle.tree_step.specs.declared.frame.ClockNow.{ClockNow}
 use Rattle.tree_step.specs.declared.taking.Entry.{Entry}
 use Rattle.tree_step.specs.declared.taking.Scene.{Scene}
 use Rattle.tree_step.specs.Cells.{cell_in}
-use Rattle.tree_step.specs.Frames.{told_elapsed, told_length}
+use Rattle.tree_step.specs.Frames.{shown_elapsed, shown_length}
 
 -- what the uses are taken over
 pub record Sight : Type 0 where
@@ -59,14 +59,14 @@ StandsAs s S m class Ticks = IsKnownToTick s S m class
 StandsAs s S m class Rests = IsKnown s S m class × (class_ticks s S class m ≡ false)
 StandsAs s S m class Unknown = IsKnown s S m class → ⊥
 
--- what is told of a clock is so at the moment, over a row; of what is unclocked it is told that it ticks
-pub record IsClockTold (s : Setting) (S : Assignment) (m : ℕ) (base : Row) (class : Option ℕ) (clock : ClockNow) : Type 0 where
+-- what is shown of a clock is so at the moment, over a row; of what is unclocked it is shown that it ticks
+pub record IsClockShown (s : Setting) (S : Assignment) (m : ℕ) (base : Row) (class : Option ℕ) (clock : ClockNow) : Type 0 where
   pub ticks : clock.ticks ≡ class_ticks s (with_row S m base) class m
   pub first : (c : ℕ) → class ≡ Some c → clock.ticks ≡ true → clock.first ≡ is_none (tick_before (class_ticks s S class) m)
-  pub interval : (c : ℕ) → class ≡ Some c → clock.ticks ≡ true → told_length clock.first clock.interval ≡ interval_at s (class_ticks s S class) m (clock_of s class)
-  pub measured : clock.ticks ≡ true → IsMeasurable (told_elapsed clock.first clock.interval)
+  pub interval : (c : ℕ) → class ≡ Some c → clock.ticks ≡ true → shown_length clock.first clock.interval ≡ interval_at s (class_ticks s S class) m (clock_of s class)
+  pub measured : clock.ticks ≡ true → IsMeasurable (shown_elapsed clock.first clock.interval)
 
--- what a side asks for is told by the cells, and what it samples by the values at the moment before
+-- what a side asks for is shown by the cells, and what it samples by the values at the moment before
 pub record IsSideSeen (s : Setting) (S : Assignment) (m : ℕ) (base : Row) (sight : Sight) (cells : List Cell) (clock : ClockNow) (e : Expr) : Type 0 where
   pub now : (y : ℕ) → AsksFor e 0 (OfNow y) → HasCell sight.places cells y
   pub last : (z : ℕ) → AsksFor e 0 (OfLast z) → (cell : Cell) × (cell_in sight.places cells z ≡ Some cell) × KeepsLast s S m z cell × StandsAs s (with_row S m base) m (class_of_name s z) cell.standing
@@ -78,7 +78,7 @@ abbrev pub AreSidesSeen : Setting → Assignment → ℕ → Row → Sight → L
 AreSidesSeen s S m base sight cells clock (Valued left right clause) = IsSideSeen s S m base sight cells clock left × IsSideSeen s S m base sight cells clock right
 AreSidesSeen s S m base sight cells clock (Clocks left right clause) = Unit {0}
 
--- an entry is that of a use that can be solved, its name has a cell, its clock is told, and what its equation asks for is told
+-- an entry is that of a use that can be solved, its name has a cell, its clock is shown, and what its equation asks for is shown
 pub record IsEntry (s : Setting) (S : Assignment) (m : ℕ) (base : Row) (sight : Sight) (cells : List Cell) (entry : Entry) : Type 0 where
   pub equation : Equation
   pub found : slice_get s.model.equations entry.equation ≡ Some equation
@@ -86,14 +86,14 @@ pub record IsEntry (s : Setting) (S : Assignment) (m : ℕ) (base : Row) (sight 
   pub own : HasCell sight.places cells entry.name
   pub clock : ClockNow
   pub clock_found : slice_get sight.clocks entry.clock ≡ Some clock
-  pub told : IsClockTold s S m base (class_of_equation s entry.equation) clock
+  pub told : IsClockShown s S m base (class_of_equation s entry.equation) clock
   pub seen : AreSidesSeen s S m base sight cells clock equation
 
 -- no site whose tick one of the uses asks for waits for a name that they reach
 abbrev pub AreSitesApart : Setting → List Use → List Entry → Type 0
 AreSitesApart s reached entries = (entry : Entry) (class : Option ℕ) (y : ℕ) → IsAmong entry entries → AsksClass s entry.equation class → SiteReads s class y → IsReachedBy y reached → ⊥
 
--- uses of a free order are taken from a row: names have values before the moment, the row is typed, sound and without values of these uses, cells hold the row, and each entry is told
+-- uses of a free order are taken from a row: names have values before the moment, the row is typed, sound and without values of these uses, cells hold the row, and each entry is shown
 pub record IsStart (s : Setting) (uses before after : List Use) (S : Assignment) (m : ℕ) (base : Row) (sight : Sight) (entries : List Entry) (cells : List Cell) : Type 0 where
   pub ordered : IsOrdered s uses (before ++ (uses_of entries ++ after))
   pub meets : AreValuedBefore s S m

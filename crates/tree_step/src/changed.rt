@@ -1,6 +1,6 @@
 //! Unclocked uses, whose equations are evaluated only where something changed that they read.
 ghost use Rattle.std.specs.Prelude.{◌≡◌, true, All, Some, length, slice_get};
-ghost use Rattle.flat_model.specs.Answers.{value_in};
+ghost use Rattle.flat_model.specs.Values.{value_in};
 ghost use Rattle.tree_step.specs.Changed.{CanStartChanged};
 ghost use Rattle.tree_step.specs.Starts.{sight_of};
 ghost use Rattle.tree_step.specs.Takes.{TakesUses};

@@ -1,12 +1,12 @@
 //! What an equation reads while the values of a moment are being found.
 ghost use Rattle.std.specs.Prelude.{◌≡◌};
-ghost use Rattle.tree_step.specs.Frames.{told_elapsed};
+ghost use Rattle.tree_step.specs.Frames.{shown_elapsed};
 
 use crate::cell::{Cell, Standing, cell_at};
 use flat_model::{Elapsed, Left, Lookup};
 use sync_values::Value;
 
-/// What is told of a clock at a moment: whether it ticks, and where it does, whether it does for the first time, and its
+/// What is shown of a clock at a moment: whether it ticks, and where it does, whether it does for the first time, and its
 /// interval. Of an event clock that ticks for the first time the end of the interval alone counts.
 #[derive(Clone, Copy)]
 pub struct ClockNow {
@@ -17,7 +17,7 @@ pub struct ClockNow {
 
 impl ClockNow {
     fn elapsed(&self) -> Elapsed
-        ensures { result ≡ told_elapsed self.now.first self.now.interval }
+        ensures { result ≡ shown_elapsed self.now.first self.now.interval }
     {
         match self.interval {
             Elapsed::Period(period) => Elapsed::Period(period),
@@ -32,7 +32,7 @@ impl ClockNow {
     }
 }
 
-/// The cells of the names that can be read, the values at the moment before, and what is told of the equation's clock.
+/// The cells of the names that can be read, the values at the moment before, and what is shown of the equation's clock.
 #[derive(Drop)]
 pub struct Frame<'a> {
     pub places: &'a [u32],
@@ -42,11 +42,11 @@ pub struct Frame<'a> {
 }
 
 impl<'a> Lookup for Frame<'a> {
-    ghost use Rattle.tree_step.specs.Frames.{frame_views, told_elapsed};
+    ghost use Rattle.tree_step.specs.Frames.{frame_views, shown_elapsed};
 
     ghost views = { λ f. frame_views f.places.now f.cells.now f.left.now f.clock };
 
-    ghost elapsed = { λ f. told_elapsed f.clock.first f.clock.interval };
+    ghost elapsed = { λ f. shown_elapsed f.clock.first f.clock.interval };
 
     fn now(&self, name: u32) -> Option<Value> {
         match cell_at(self.places, self.cells, name) {

@@ -14,7 +14,7 @@ use first_failure::EquationFailing;
 use flat_model::{Equation, FlatModel, Left};
 use sync_values::{Fail, Value};
 
-/// A use with the side on which its name stands in its equation, and the place of its clock among those that are told.
+/// A use with the side on which its name stands in its equation, and the place of its clock among those that are shown.
 #[derive(Clone, Copy)]
 pub struct Entry {
     pub equation: u32,
@@ -24,7 +24,7 @@ pub struct Entry {
 }
 
 /// What stays the same while uses are taken at a moment: the model, the place of each name's cell, the values at the moment
-/// before, and what is told of clocks.
+/// before, and what is shown of clocks.
 #[derive(Drop)]
 pub struct Scene<'a> {
     pub flat: &'a FlatModel,

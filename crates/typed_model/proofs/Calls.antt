@@ -18,7 +18,7 @@ use Rattle.flat_types.specs.Readings.{operator_found, sample_found, clock_found,
 use Rattle.typed_model.proofs.Values.{good-FirstTick, good-Sample}
 use Rattle.typed_model.proofs.Good.{IsGoodClock}
 use Rattle.typed_model.proofs.Clocks.{good-Inferred, good-Event}
-use Rattle.typed_model.proofs.Parts.{Each, IsGood, IsGoodTyped, IsGoodTick, value_good, clock_good}
+use Rattle.typed_model.proofs.NodeParts.{Each, IsGood, IsGoodTyped, IsGoodTick, value_good, clock_good}
 use Rattle.typed_model.proofs.Forms.{arithmetic_good}
 use Rattle.typed_model.proofs.Counted.{counter_range, sub_range, super_range, shift_range, back_range, shift_both_range, back_both_range, clock_one_good, clock_both_good}
 use Rattle.typed_model.proofs.Named.{previous_good, hold_good, no_clock_good, first_tick_good, converted_good}

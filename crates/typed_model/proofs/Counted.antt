@@ -9,7 +9,7 @@ use Rattle.flat_model.specs.declared.expression.Expr.{Expr}
 use Rattle.flat_model.specs.declared.clock.Conversion.{Conversion}
 use Rattle.flat_model.specs.declared.clock.Conversion.TheVariants as by
 use Rattle.flat_model.specs.Operators.{Answer, Is, Fails, Absent}
-use Rattle.flat_model.specs.Answers.{views_of}
+use Rattle.flat_model.specs.Values.{views_of}
 use Rattle.flat_model.specs.Meaning.{value_of}
 use Rattle.flat_model.specs.Counters.{is_counter, has_counters}
 use Rattle.flat_types.specs.declared.outcome.Outcome.{Outcome}
@@ -17,7 +17,7 @@ use Rattle.flat_types.specs.declared.outcome.Outcome.TheVariants.{Name, Valued, 
 use Rattle.flat_types.specs.Outcomes.{is_constant, number_in, number_from, constant_number, counter, both, clock_of}
 use Rattle.typed_model.proofs.Good.{IsGoodClock}
 use Rattle.typed_model.proofs.Clocks.{good-Inferred, good-Rational}
-use Rattle.typed_model.proofs.Parts.{IsGoodTick}
+use Rattle.typed_model.proofs.NodeParts.{IsGoodTick}
 
 -- a number from the least one on, where there is one
 abbrev pub IsInRange : ℕ → Option ℕ → Type 0

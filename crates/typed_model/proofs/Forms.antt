@@ -18,7 +18,7 @@ use Rattle.flat_types.specs.Outcomes.{as_value, as_values, type_of_part, made}
 use Rattle.flat_types.specs.Readings.{both_of, all_three, is_quotient, types_of, chain_found, relation_found, single_found, if_found, arithmetic}
 use Rattle.typed_model.proofs.Good.{IsGoodValue}
 use Rattle.typed_model.proofs.Values.{good-Chain, good-Relation, good-Neg, good-Not, good-If, good-Apply}
-use Rattle.typed_model.proofs.Parts.{Each, IsGood, IsGoodTyped, AreGoodTyped, value_good, values_good, made_none, made_good}
+use Rattle.typed_model.proofs.NodeParts.{Each, IsGood, IsGoodTyped, AreGoodTyped, value_good, values_good, made_none, made_good}
 
 module _ (names : List FlatName) where
   pub chain_good : (parts : List Outcome) (ops : List ChainOp) → Each (IsGood names) parts → IsGood names (chain_found names parts ops)

@@ -15,7 +15,7 @@ use Rattle.flat_types.specs.declared.outcome.Outcome.TheVariants.{Name, Valued, 
 use Rattle.flat_types.specs.Outcomes.{counter}
 use Rattle.flat_types.specs.Readings.{Reading, is_times, with_counter, first_interval, second_interval, integer_found, interval_of, product_of_two, product_of}
 use Rattle.typed_model.proofs.Values.{good-IntervalTimes}
-use Rattle.typed_model.proofs.Parts.{IsGood, after_good}
+use Rattle.typed_model.proofs.NodeParts.{IsGood, after_good}
 use Rattle.typed_model.proofs.Counted.{IsInRange, counter_range}
 
 module _ (names : List FlatName) where

@@ -2,7 +2,7 @@ pub mod Good
 pub mod Values
 pub mod Clocks
 pub mod Lists
-pub mod Parts
+pub mod NodeParts
 pub mod Forms
 pub mod Counted
 pub mod Named

@@ -16,7 +16,7 @@ use Rattle.flat_types.specs.Outcomes.{component, of_variable, converted, convert
 use Rattle.flat_types.specs.Readings.{variable, previous_found, hold_found, no_clock_found, first_tick_found}
 use Rattle.typed_model.proofs.Values.{good-Previous, good-Hold, good-Convert, good-FirstTick}
 use Rattle.typed_model.proofs.Clocks.{good-ClockConvert}
-use Rattle.typed_model.proofs.Parts.{IsGood}
+use Rattle.typed_model.proofs.NodeParts.{IsGood}
 use Rattle.typed_model.proofs.Counted.{HasRange}
 
 module _ (names : List FlatName) where

@@ -17,7 +17,7 @@ use Rattle.flat_types.specs.declared.outcome.Outcome.TheVariants.{Broken}
 use Rattle.flat_types.specs.Callees.{callee}
 use Rattle.flat_types.specs.Readings.{Reading, found_in, after, in_turn, call_found, call_read, chain_found, relation_found, single_found, if_found, read_level, reading}
 use Rattle.typed_model.proofs.Values.{good-Const}
-use Rattle.typed_model.proofs.Parts.{Each, IsGood, after_good}
+use Rattle.typed_model.proofs.NodeParts.{Each, IsGood, after_good}
 use Rattle.typed_model.proofs.Forms.{chain_good, relation_good, neg_good, not_good, if_good}
 use Rattle.typed_model.proofs.Calls.{call_good}
 use Rattle.typed_model.proofs.Intervals.{IsGoodInterval, IsGoodProduct, AreGoodIntervals, interval_good, product_good, integer_good}

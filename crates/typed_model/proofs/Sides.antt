@@ -20,7 +20,7 @@ use Rattle.flat_types.specs.Outcomes.{as_value, as_clock}
 use Rattle.flat_types.specs.Readings.{reading, node_of}
 use Rattle.flat_types.specs.Typed.{clock_by, clocks_by, values_by, clause_clock, equation_by, equation_of}
 use Rattle.typed_model.proofs.Good.{IsGoodValue, IsGoodClock}
-use Rattle.typed_model.proofs.Parts.{IsGood, IsGoodTyped, IsGoodTick, value_good, clock_good}
+use Rattle.typed_model.proofs.NodeParts.{IsGood, IsGoodTyped, IsGoodTick, value_good, clock_good}
 use Rattle.typed_model.proofs.Nodes.{reading_good}
 
 -- an equation in a clause, or in none: both sides are good, and are of one type or are clocks

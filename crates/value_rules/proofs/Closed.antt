@@ -7,7 +7,7 @@ use Rattle.class_scopes.specs.Spelled.{Ident}
 use Rattle.flat_instances.specs.Instances.{Variable}
 use Rattle.parameter_values.specs.Values.{Values, AreValues, is_parameter, value_from, parameter_named, derived}
 use Rattle.parameter_values.proofs.Derivations.{Below, rises}
-use Rattle.parameter_values.proofs.Answers.{value_grows}
+use Rattle.parameter_values.proofs.MoreValues.{value_grows}
 
 find_stands : {A : Type 0} (t : A → Bool) (xs : List A) (p : A) → find t xs ≡ Some p → (i : ℕ) × (slice_get xs i ≡ Some p) × (t p ≡ true)
 find_stands t [] p is = absurd (cc is)

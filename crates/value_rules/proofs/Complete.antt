@@ -10,8 +10,8 @@ use Rattle.class_scopes.specs.Tables.{Numbered, number_of}
 use Rattle.class_scopes.specs.Types.{kind_of}
 use Rattle.flat_instances.specs.Instances.{Placed, Variable}
 use Rattle.parameter_values.specs.Values.{Values, AreValues, is_parameter, value_by, value_expr, value_from, parameter_named}
-use Rattle.parameter_values.specs.private.Slots.{seen, IsTableOfParameters}
-use Rattle.parameter_values.specs.private.Givens.{Valued, valued_of}
+use Rattle.parameter_values.specs.Slots.{seen, IsTableOfParameters}
+use Rattle.parameter_values.specs.Givens.{Valued, valued_of}
 use Rattle.parameter_values.proofs.Slots.{numbered}
 use Rattle.value_rules.specs.N6 as N6
 use Rattle.value_rules.specs.N7 as N7

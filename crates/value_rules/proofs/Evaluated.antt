@@ -9,8 +9,8 @@ use Rattle.class_scopes.specs.Spelled.{Ident}
 use Rattle.class_scopes.specs.Tables.{Numbered}
 use Rattle.flat_instances.specs.Instances.{Placed}
 use Rattle.parameter_values.specs.Values.{Values, of_kind, answer, value_by}
-use Rattle.parameter_values.specs.private.Outcomes.{outcome}
-use Rattle.parameter_values.specs.private.Givens.{value_with}
+use Rattle.parameter_values.specs.Outcomes.{outcome}
+use Rattle.parameter_values.specs.Givens.{value_with}
 use Rattle.parameter_values.proofs.OutcomeMeaning.{outcome_matches}
 use Rattle.value_rules.specs.private.Missing.{is_no_value, unless_value, missing_of}
 

@@ -9,7 +9,7 @@ use Rattle.class_scopes.specs.Tables.{Numbered}
 use Rattle.class_scopes.specs.Types.{kind_of}
 use Rattle.flat_instances.specs.Instances.{Placed, Variable}
 use Rattle.parameter_values.specs.Values.{Values, AreValues, is_parameter, value_by, value_expr}
-use Rattle.parameter_values.specs.private.Slots.{seen, IsTableOfParameters}
+use Rattle.parameter_values.specs.Slots.{seen, IsTableOfParameters}
 use Rattle.value_rules.specs.declared.missing.Needs.{Needs as KeptNeeds}
 use Rattle.value_rules.specs.N6 as N6
 use Rattle.value_rules.specs.N7 as N7

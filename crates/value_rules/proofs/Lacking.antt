@@ -7,8 +7,8 @@ use Rattle.flat_model.specs.declared.model.NameKind.{NameKind}
 use Rattle.class_scopes.specs.Tables.{Numbered}
 use Rattle.flat_instances.specs.Instances.{Placed}
 use Rattle.parameter_values.specs.Values.{value_by}
-use Rattle.parameter_values.specs.private.Slots.{seen}
-use Rattle.parameter_values.specs.private.Givens.{value_with}
+use Rattle.parameter_values.specs.Slots.{seen}
+use Rattle.parameter_values.specs.Givens.{value_with}
 use Rattle.value_rules.specs.private.Missing.{missing_reads, unless_value, missing_for}
 use Rattle.value_rules.proofs.Evaluated.{with_classes}
 

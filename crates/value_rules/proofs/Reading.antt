@@ -13,7 +13,7 @@ use Rattle.class_scopes.proofs.Leasts.{into_all, out_of_all}
 use Rattle.scope_names.specs.Written.{names_in}
 use Rattle.flat_instances.specs.Instances.{Placed, Variable}
 use Rattle.parameter_values.specs.Values.{Values}
-use Rattle.parameter_values.specs.private.Slots.{value_at, seen, IsTableOfParameters}
+use Rattle.parameter_values.specs.Slots.{value_at, seen, IsTableOfParameters}
 use Rattle.value_rules.specs.N6 as N6
 use Rattle.value_rules.specs.private.Missing.{is_missing, missing_number, missing_read, missing_reads}
 

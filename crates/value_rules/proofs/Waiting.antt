@@ -9,8 +9,8 @@ use Rattle.class_scopes.specs.Tables.{Numbered}
 use Rattle.class_scopes.specs.Types.{kind_of}
 use Rattle.flat_instances.specs.Instances.{Placed, Variable}
 use Rattle.parameter_values.specs.Values.{Values, value_expr}
-use Rattle.parameter_values.specs.private.Slots.{seen, IsTableOfParameters}
-use Rattle.parameter_values.specs.private.Givens.{Valued, valued_of, value_with}
+use Rattle.parameter_values.specs.Slots.{seen, IsTableOfParameters}
+use Rattle.parameter_values.specs.Givens.{Valued, valued_of, value_with}
 use Rattle.value_rules.specs.N6 as N6
 use Rattle.value_rules.specs.private.Missing.{missing_reads, unless_value, missing_for, or_none, waiting}
 use Rattle.value_rules.proofs.Lacking.{IsLacking, lacks_reads, reads_lacks}

@@ -6,8 +6,8 @@ use Rattle.class_scopes.specs.Faults.{IsFirstOf, IsKept}
 use Rattle.class_scopes.specs.Tables.{Numbered}
 use Rattle.flat_instances.specs.Instances.{Variable}
 use Rattle.parameter_values.specs.Values.{AreValues}
-use Rattle.parameter_values.specs.private.Slots.{seen, parameters, IsTableOfParameters}
-use Rattle.parameter_values.specs.private.Givens.{Valued, valued_of}
+use Rattle.parameter_values.specs.Slots.{seen, parameters, IsTableOfParameters}
+use Rattle.parameter_values.specs.Givens.{Valued, valued_of}
 use Rattle.value_rules.specs.declared.faults.ValueFault.{ValueFault}
 use Rattle.value_rules.specs.declared.faults.ValueFault.TheVariants.{Waiting, Failing}
 use Rattle.value_rules.specs.N6 as N6

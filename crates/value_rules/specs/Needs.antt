@@ -4,7 +4,7 @@ use Rattle.mo_parser.specs.declared.tree.ClassDef.{ClassDef}
 use Rattle.class_scopes.specs.Types.{kind_of}
 use Rattle.flat_instances.specs.Instances.{Placed, Variable}
 use Rattle.parameter_values.specs.Values.{is_parameter, value_expr}
-use Rattle.parameter_values.specs.private.Givens.{Valued, valued}
+use Rattle.parameter_values.specs.Givens.{Valued, valued}
 use Rattle.value_rules.specs.declared.missing.Needs.{Needs as KeptNeeds}
 
 -- the types and expressions of a variable's own value and of its start

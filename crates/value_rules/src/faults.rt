@@ -1,6 +1,6 @@
 //! The first variable without a value that it needs.
 ghost use Rattle.std.specs.Prelude.{IfOk, length, map};
-ghost use Rattle.parameter_values.specs.private.Givens as givens;
+ghost use Rattle.parameter_values.specs.Givens as givens;
 ghost use Rattle.value_rules.specs.Needs as wanted;
 ghost use Rattle.value_rules.specs.private.Missing as meaning;
 ghost use Rattle.value_rules.specs.Faults as faults;
@@ -10,16 +10,35 @@ use class_scopes::Table;
 use mo_order::{OrderEnd, ordered};
 use parameter_values::{Parameter, Values};
 use std::alloc::{AllocError, Global};
+use std::error::Error;
+use std::fmt;
 use sync_values::Value;
 
 /// A broken rule of values.
-#[derive(Clone, Copy)]
+#[derive(Clone, Copy, Debug)]
 pub enum ValueFault {
     /// N6, and the number of the parameter or constant among those of the model.
     Waiting(usize),
     /// N7, and the number of the variable among those of the model.
     Failing(usize),
 }
+
+impl fmt::Display for ValueFault {
+    fn fmt<W: fmt::Write>(&self, f: &mut fmt::Formatter<W>) -> fmt::Result {
+        match self {
+            ValueFault::Waiting(index) => write!(
+                f,
+                "the value of parameter {index}, counted from 0, needs itself"
+            ),
+            ValueFault::Failing(index) => write!(
+                f,
+                "the value of variable {index}, counted from 0, fails"
+            ),
+        }
+    }
+}
+
+impl Error for ValueFault {}
 
 /// The least number of a parameter that waits for itself.
 fn first_waiting(

@@ -3,7 +3,7 @@ ghost use Rattle.std.specs.Prelude.{◌≡◌, IfOk, OnOk, ◌++◌, length, map
 ghost use Rattle.std.specs.List.{position_from};
 ghost use Rattle.mo_order.specs.Graphs.{graph_of};
 ghost use Rattle.class_scopes.specs.Spelled as spellings;
-ghost use Rattle.parameter_values.specs.private.Givens as givens;
+ghost use Rattle.parameter_values.specs.Givens as givens;
 ghost use Rattle.value_rules.specs.Needs as wanted;
 ghost use Rattle.value_rules.specs.private.Missing as meaning;
 

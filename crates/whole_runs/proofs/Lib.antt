@@ -1,5 +1,5 @@
 pub mod Counting
 pub mod Onward
-pub mod Setting
+pub mod SetCells
 pub mod Taking
 pub mod Whole

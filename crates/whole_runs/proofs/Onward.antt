@@ -31,7 +31,7 @@ use Rattle.side_theory.proofs.Counting.{reached_split, free_behind}
 use Rattle.side_theory.proofs.Showing.{at_tick, same_given}
 use Rattle.side_theory.proofs.Taking.{truths}
 use Rattle.side_theory.proofs.Turns.{same_at}
-use Rattle.whole_runs.specs.Lines.{IsCounted, Tells, AreTelling}
+use Rattle.whole_runs.specs.Lines.{IsCounted, Expresses, AreExpressing}
 use Rattle.whole_runs.proofs.Counting.{counted, name_class, sites, still, begins_next}
 
 -- all have values, or one fails
@@ -73,7 +73,7 @@ module _ (s : Setting) (uses : List Use) (class : ℕ) (S : Assignment) (m : ℕ
   abbrev Goes : List Use → Row → List Use → Views → Ended → Type 0
   Goes before row entries views e = OnwardEnds s uses before S m row entries class views e × IsNoneMissing e
 
-  pub onward : (before entries after : List Use) → IsOrdered s uses (before ++ (entries ++ after)) → (ls : List Line) → AreTelling s uses class entries ls → (row : Row) (views : Views) → Begins s S m row class before
+  pub onward : (before entries after : List Use) → IsOrdered s uses (before ++ (entries ++ after)) → (ls : List Line) → AreExpressing s uses class entries ls → (row : Row) (views : Views) → Begins s S m row class before
       → ((d : ℕ) (q : Asking) → IsSameAt views (views_over row) d q) → Goes before row entries views (lines_end ls views)
   onward before [] after ordered [] lines row views begins same = ((row, λ y. refl, λ is. is, no_more before row begins), tt)
   onward before [] after ordered (l ∷ ls) lines row views begins same = absurd lines
@@ -84,7 +84,7 @@ module _ (s : Setting) (uses : List Use) (class : ℕ) (S : Assignment) (m : ℕ
       (begins_next s uses before (entries ++ after) entry ordered class lines.0.0 is.class_is S m row begins v (gives v value_is) class refl begins.ticks)
       (λ d q. subst (λ z. IsSameAt (given z v views) (views_over (put row entry.name v)) d q) (sym lines.0.1) (given_same v d q (same d q))))
     where
-      is : Tells s entry l.side class
+      is : Expresses s entry l.side class
       is = lines.0.2
 
       count : IsCounted s S m row entry
@@ -134,14 +134,14 @@ no_failing : (failing : Failing) → (let none : Option Failing = None in none) 
 no_failing failing e = cc
 
 module _ (s : Setting) (uses : List Use) (class : ℕ) where
-  new_to : (x : ℕ) (entries after : List Use) (ls : List Line) → AreTelling s uses class entries ls → (IsReachedBy x (entries ++ after) → ⊥) → IsNewTo x ls
+  new_to : (x : ℕ) (entries after : List Use) (ls : List Line) → AreExpressing s uses class entries ls → (IsReachedBy x (entries ++ after) → ⊥) → IsNewTo x ls
   new_to x [] after [] of none = tt
   new_to x [] after (l ∷ ls) of none = absurd of
   new_to x (entry ∷ entries) after [] of none = absurd of
   new_to x (entry ∷ entries) after (l ∷ ls) of none = (λ is. none (inl (is ∙ of.0.1)), new_to x entries after ls of.1 (λ reached. none (inr reached)))
 
   module _ (S : Assignment) (m : ℕ) (row : Row) (ticks : class_ticks s (with_row S m row) (Some class) m ≡ true) (at : Cells) (t : ℕ) where
-    are_lines : (entries after : List Use) → ((y : ℕ) → IsReachedBy y entries → class_of_name s y ≡ Some class) → AreFree s (entries ++ after) → (ls : List Line) → AreTelling s uses class entries ls → AreCelled at t ls → IsClear entries row
+    are_lines : (entries after : List Use) → ((y : ℕ) → IsReachedBy y entries → class_of_name s y ≡ Some class) → AreFree s (entries ++ after) → (ls : List Line) → AreExpressing s uses class entries ls → AreCelled at t ls → IsClear entries row
         → AreLines at t (views_at s (with_row S m row) (Some class) m) ls
     are_lines [] after own free [] of celled clear = tt
     are_lines [] after own free (l ∷ ls) of celled clear = absurd of
@@ -165,7 +165,7 @@ module _ (s : Setting) (uses : List Use) (class : ℕ) where
         tick = ap (λ c. class_ticks s (with_row S m row) c m) (own l.name (inl of.0.1)) ∙ ticks
 
 -- a run in which no line fails takes all uses
-pub run_takes : (s : Setting) (uses before entries after : List Use) → IsOrdered s uses (before ++ (entries ++ after)) → (class : ℕ) (ls : List Line) → AreTelling s uses class entries ls → ((y : ℕ) → IsReachedBy y entries → class_of_name s y ≡ Some class)
+pub run_takes : (s : Setting) (uses before entries after : List Use) → IsOrdered s uses (before ++ (entries ++ after)) → (class : ℕ) (ls : List Line) → AreExpressing s uses class entries ls → ((y : ℕ) → IsReachedBy y entries → class_of_name s y ≡ Some class)
     → (at : Cells) (t : ℕ) (S : Assignment) (m : ℕ) (row : Row) (old new : List ℤ) (stretch : Stretch) → IsStretch at t ls stretch → AreApart at → AreCelled at t ls → AreBooleans s at → Begins s S m row class before → IsClear entries row
     → HoldsRow s S m row class at t old → RunsLines stretch old new None → AllTaken s uses before entries S m row class at t new × IsKeptBut t ls old new
 run_takes s uses before entries after ordered class ls of own at t S m row old new stretch is apart celled booleans begins clear holds runs =

@@ -19,21 +19,21 @@ use Rattle.side_theory.specs.Runs.{AreCelled, AllTaken}
 use Rattle.side_theory.specs.SetOn.{AreNoClockCells}
 use Rattle.side_theory.proofs.Counting.{reached_split, free_behind}
 use Rattle.side_theory.proofs.Keeping.{holds_row}
-use Rattle.side_theory.proofs.Setting.{taken_other}
+use Rattle.side_theory.proofs.SetCells.{taken_other}
 use Rattle.part_stretches.specs.declared.running.ClassStretch.{ClassStretch}
 use Rattle.part_stretches.specs.declared.running.PartFailing.{PartFailing}
 use Rattle.part_stretches.specs.Running.{tick_in, GoesOn, RunsOne, RunsFrom}
 use Rattle.part_stretches.specs.Parts.{Block, entries_of, AreAlike, AllBegin}
 use Rattle.first_failure.proofs.Stepping.{set_alike, alike_back}
-use Rattle.whole_runs.specs.Lines.{AreTelling}
-use Rattle.whole_runs.proofs.Setting.{own_class, ticks_same, set_on, clock_on}
+use Rattle.whole_runs.specs.Lines.{AreExpressing}
+use Rattle.whole_runs.proofs.SetCells.{own_class, ticks_same, set_on, clock_on}
 use Rattle.whole_runs.proofs.Onward.{run_takes}
-use Rattle.whole_runs.specs.Whole.{IsCoded, AreCoded, AreToldBy}
+use Rattle.whole_runs.specs.Whole.{IsCoded, AreCoded, AreShownBy}
 
 no_failing : (failing : PartFailing) → (let none : Option PartFailing = None in none) ≡ Some failing → ⊥
 no_failing failing e = cc
 
--- the cells that tell of a clock are no line's
+-- the cells that show a clock are no line's
 no_clock_cells : (a b : Cells) (t : ℕ) → AreAlike a b → AreApart b → (there : Cells) → AreAlike a there → (ls : List Line) → AreCelled there t ls → AreNoClockCells b ls
 no_clock_cells a b t alike apart there like ls celled = record {
   first = λ c is. none ls celled c (λ x now. apart.first 0 x c now is);
@@ -73,7 +73,7 @@ module _ (s : Setting) (uses : List Use) (p : Option ℕ) (common : Cells) (t : 
     pub still : (c : Option ℕ) → class_ticks s (with_row S m row) c m ≡ class_ticks s (with_row S m last) c m
 
   -- uses of a class that rests are taken, and change nothing
-  rest_taken : (class : ℕ) (row : Row) → class_ticks s (with_row S m row) (Some class) m ≡ false → (entries : List Use) (ls : List Line) → AreTelling s uses class entries ls → AreTaken s S m entries row row
+  rest_taken : (class : ℕ) (row : Row) → class_ticks s (with_row S m row) (Some class) m ≡ false → (entries : List Use) (ls : List Line) → AreExpressing s uses class entries ls → AreTaken s S m entries row row
   rest_taken class row rests [] ls of = λ y. refl
   rest_taken class row rests (entry ∷ entries) [] of = absurd of
   rest_taken class row rests (entry ∷ entries) (l ∷ ls) of =
@@ -140,7 +140,7 @@ module _ (s : Setting) (uses : List Use) (p : Option ℕ) (common : Cells) (t : 
             taken_other s S m block.entries row all.last all.taken y (λ own. reached_once s y block.entries (entries_of blocks ++ after) free own (reached_before y (entries_of blocks) after reached))
             ∙ clear y (reached_behind y block.entries (entries_of blocks) reached)
 
-        told_next : (some : List ClassStretch) (others : List Block) → AreCoded s uses p common t some others → AreToldBy s S m row ticking t old some others → AreToldBy s S m all.last ticking t mid some others
+        told_next : (some : List ClassStretch) (others : List Block) → AreCoded s uses p common t some others → AreShownBy s S m row ticking t old some others → AreShownBy s S m all.last ticking t mid some others
         told_next [] [] are told = tt
         told_next [] (b ∷ others) are told = absurd are
         told_next (o ∷ some) [] are told = absurd are
@@ -154,7 +154,7 @@ module _ (s : Setting) (uses : List Use) (p : Option ℕ) (common : Cells) (t : 
         )
 
   pub went : (before after : List Use) (blocks : List Block) → IsOrdered s uses (before ++ (entries_of blocks ++ after)) → (stretches : List ClassStretch) → AreCoded s uses p common t stretches blocks
-      → (row : Row) → AllBegin s p S m row before → IsClear (entries_of blocks) row → (i : ℕ) (old new : List ℤ) → IsSet s S m row common t old → AreToldBy s S m row ticking t old stretches blocks
+      → (row : Row) → AllBegin s p S m row before → IsClear (entries_of blocks) row → (i : ℕ) (old new : List ℤ) → IsSet s S m row common t old → AreShownBy s S m row ticking t old stretches blocks
       → RunsFrom i ticking stretches old new None → Went before (entries_of blocks) row new
   went before after [] ordered [] are row begins clear i old new set told runs = record {
     last = row;

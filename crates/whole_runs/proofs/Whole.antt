@@ -18,7 +18,7 @@ use Rattle.moment_theory.proofs.Rows.{row_now}
 use Rattle.moment_theory.proofs.Members.{IsMember, contains_member, reached_member}
 use Rattle.step_code.specs.Code.{Cells}
 use Rattle.side_theory.specs.Kept.{IsSet}
-use Rattle.side_theory.proofs.Setting.{taken_other}
+use Rattle.side_theory.proofs.SetCells.{taken_other}
 use Rattle.side_theory.proofs.Counting.{free_behind}
 use Rattle.step_code.specs.Lines.{Line}
 use Rattle.part_stretches.specs.declared.running.ClassStretch.{ClassStretch}
@@ -27,8 +27,8 @@ use Rattle.part_stretches.specs.Running.{RunsFrom}
 use Rattle.first_failure.specs.Turns.{IsTurn}
 use Rattle.first_failure.proofs.Stepping.{gives_or_fails}
 use Rattle.first_failure.proofs.Turning.{all_sound, turn_of, alike_at_turn}
-use Rattle.whole_runs.specs.Lines.{AreTelling}
-use Rattle.whole_runs.specs.Whole.{AreCoded, AreToldBy, IsValuedAt, IsWhole}
+use Rattle.whole_runs.specs.Lines.{AreExpressing}
+use Rattle.whole_runs.specs.Whole.{AreCoded, AreShownBy, IsValuedAt, IsWhole}
 use Rattle.whole_runs.proofs.Taking.{Went, went, reached_behind, reached_before, reached_once}
 
 some_of : {A : Type 0} (o : Option A) → IsSome o → (v : A) × (o ≡ Some v)
@@ -53,7 +53,7 @@ module _ (s : Setting) (uses before after : List Use) (S : Assignment) (m : ℕ)
     pub name_is : class_of_name s entry.name ≡ Some class
     pub partition : partition_of s (Some class) ≡ p
 
-  line_own : (order : List Use) → IsOrdered s uses order → (class : ℕ) → partition_of s (Some class) ≡ p → (entries : List Use) (ls : List Line) → AreTelling s uses class entries ls → (entry : Use) → IsMember entry entries → IsOwn entry
+  line_own : (order : List Use) → IsOrdered s uses order → (class : ℕ) → partition_of s (Some class) ≡ p → (entries : List Use) (ls : List Line) → AreExpressing s uses class entries ls → (entry : Use) → IsMember entry entries → IsOwn entry
   line_own order ordered class partition [] ls of entry member = absurd member
   line_own order ordered class partition (first ∷ entries) [] of entry member = absurd of
   line_own order ordered class partition (first ∷ entries) (l ∷ ls) of entry (inl at) = subst IsOwn at (record {
@@ -146,7 +146,7 @@ module _ (s : Setting) (uses before after : List Use) (S : Assignment) (m : ℕ)
     }
 
 pub whole : (s : Setting) (uses before after : List Use) (blocks : List Block) → IsOrdered s uses (before ++ (entries_of blocks ++ after)) → (p : Option ℕ) (common : Cells) (t : ℕ) (stretches : List ClassStretch) → AreCoded s uses p common t stretches blocks
-    → (S : Assignment) (m : ℕ) (row : Row) → IsSound s (with_row S m row) m → AllBegin s p S m row before → IsClear (entries_of blocks) row → (ticking : List Bool) (old new : List ℤ) → IsSet s S m row common t old → AreToldBy s S m row ticking t old stretches blocks
+    → (S : Assignment) (m : ℕ) (row : Row) → IsSound s (with_row S m row) m → AllBegin s p S m row before → IsClear (entries_of blocks) row → (ticking : List Bool) (old new : List ℤ) → IsSet s S m row common t old → AreShownBy s S m row ticking t old stretches blocks
     → RunsFrom 0 ticking stretches old new None → IsWhole s uses (entries_of blocks) S m row common t new
 whole s uses before after blocks ordered p common t stretches are S m row sound begins clear ticking old new set told runs =
     is_whole s uses before after S m row sound p common t ticking new (entries_of blocks) ordered clear

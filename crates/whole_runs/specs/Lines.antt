@@ -1,4 +1,4 @@
--- Lines whose sides tell what uses give, whatever the form of their equations. This project's own.
+-- Lines whose sides express what uses give, whatever the form of their equations. This project's own.
 use Rattle.std.specs.Prelude.{◌≡◌, ℕ, List, [], ◌∷◌, Some, Contains}
 use Rattle.sync_values.specs.declared.value.Value.{Value}
 use Rattle.flat_model.specs.declared.equation.Equation.{Equation}
@@ -24,13 +24,13 @@ pub record IsCounted (s : Setting) (S : Assignment) (m : ℕ) (row : Row) (entry
   pub can : CanUse s (with_row S m row) m entry equation name
 
 -- wherever a use of this class counts, a side has a value of the type of its name or fails, and a value of the side is what the use gives
-pub record Tells (s : Setting) (entry : Use) (side : Expr) (class : ℕ) : Type 0 where
+pub record Expresses (s : Setting) (entry : Use) (side : Expr) (class : ℕ) : Type 0 where
   pub class_is : class_of_equation s entry.equation ≡ Some class
   pub answers : (S : Assignment) (m : ℕ) (row : Row) (counted : IsCounted s S m row entry) → IsAnswerOfKind counted.name.kind (value_of side (views_at s (with_row S m row) (Some class) m))
   pub gives : (S : Assignment) (m : ℕ) (row : Row) → IsCounted s S m row entry → (v : Value) → value_of side (views_at s (with_row S m row) (Some class) m) ≡ Is v → Gives s S m row entry v
 
--- the lines tell of the uses, one of each
-abbrev pub AreTelling : Setting → List Use → ℕ → List Use → List Line → Type 0
-AreTelling s uses class [] [] = Unit {0}
-AreTelling s uses class (entry ∷ entries) (l ∷ ls) = (Contains uses entry × (l.name ≡ entry.name) × Tells s entry l.side class) × AreTelling s uses class entries ls
-AreTelling s uses class _ _ = ⊥
+-- the lines express the uses, one of each
+abbrev pub AreExpressing : Setting → List Use → ℕ → List Use → List Line → Type 0
+AreExpressing s uses class [] [] = Unit {0}
+AreExpressing s uses class (entry ∷ entries) (l ∷ ls) = (Contains uses entry × (l.name ≡ entry.name) × Expresses s entry l.side class) × AreExpressing s uses class entries ls
+AreExpressing s uses class _ _ = ⊥

@@ -7,7 +7,7 @@ use Rattle.std.proofs.lemmas.Option.{slice_get_past}
 use Rattle.rational_time.specs.declared.ratio.Ratio.{Ratio}
 use Rattle.flat_model.specs.declared.clock.Moment.{Moment}
 use Rattle.flat_model.specs.declared.clock.Moment.TheVariants.{Initial, At}
-use Rattle.flat_model.specs.Answers.{value_in, truth_in, views_of}
+use Rattle.flat_model.specs.Values.{value_in, truth_in, views_of}
 use Rattle.flat_model.specs.Assignment.{Assignment}
 use Rattle.flat_model.specs.Given.{with_row}
 use Rattle.flat_model.specs.Meaning.{value_of}
@@ -27,12 +27,12 @@ use Rattle.moment_moves.proofs.Ticking.{ticks_told}
 use Rattle.run_moments.specs.Moving.{IsPlanTaken, IsPlanAt}
 use Rattle.run_moments.proofs.OnPlan.{plan_after}
 use Rattle.site_risings.specs.declared.answers.SiteFailing.{SiteFailing}
-use Rattle.site_risings.specs.Answers.{TellsFirst}
+use Rattle.site_risings.specs.SiteFailures.{TellsFirst}
 use Rattle.site_risings.specs.Laws.{AreAnswers}
 use Rattle.site_risings.specs.Risings.{is_high, is_low, answer_of, was_low, CanNote, NotedTo}
 use Rattle.site_risings.proofs.Answering.{answers_are, fails_as, fails_over}
 use Rattle.site_risings.proofs.RisingLaw.{noted_at_moment, lows_kept}
-use Rattle.partition_step.specs.private.Writing.{IsWritten}
+use Rattle.partition_step.specs.Writing.{IsWritten}
 use Rattle.moment_body.specs.declared.model.ClockedModel.{ClockedModel}
 use Rattle.moment_body.specs.Stages.{Stages}
 use Rattle.moment_steps.specs.Settled.{AlwaysTicks}

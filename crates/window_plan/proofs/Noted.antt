@@ -4,7 +4,7 @@ use Rattle.rational_time.specs.declared.ratio.Ratio.{Ratio}
 use Rattle.sync_values.specs.declared.value.Value.TheVariants as value
 use Rattle.flat_model.specs.declared.clock.Moment.{Moment}
 use Rattle.flat_model.specs.declared.clock.Moment.TheVariants.{At}
-use Rattle.flat_model.specs.Answers.{truth_in}
+use Rattle.flat_model.specs.Values.{truth_in}
 use Rattle.flat_model.specs.Assignment.{Assignment}
 use Rattle.flat_model.specs.Moments.{moment_at}
 use Rattle.flat_model.specs.Operators.{Answer, Is, Fails, Absent}

@@ -10,7 +10,7 @@ use Rattle.flat_model.specs.declared.equation.Equation.{Equation}
 use Rattle.flat_model.specs.declared.equation.Equation.TheVariants.{Valued, Clocks}
 use Rattle.flat_model.specs.declared.expression.Expr.{Expr}
 use Rattle.flat_model.specs.declared.model.FlatModel.{FlatModel}
-use Rattle.flat_model.specs.Answers.{value_in}
+use Rattle.flat_model.specs.Values.{value_in}
 use Rattle.flat_model.specs.Asks.{AsksFor, OfNow, OfLast, OfPrevious}
 use Rattle.flat_model.specs.Assignment.{Assignment}
 use Rattle.flat_model.specs.Given.{with_row, IsKnownToTick}
@@ -35,11 +35,11 @@ use Rattle.tree_step.specs.declared.cell.Cell.{Cell}
 use Rattle.tree_step.specs.declared.frame.ClockNow.{ClockNow}
 use Rattle.tree_step.specs.declared.taking.Entry.{Entry}
 use Rattle.tree_step.specs.Cells.{cell_in}
-use Rattle.tree_step.specs.Starts.{Sight, use_of, uses_of, IsAmong, HasCell, IsClockTold, IsSideSeen, AreSidesSeen, IsEntry, AreSitesApart, IsStart, CanStart}
+use Rattle.tree_step.specs.Starts.{Sight, use_of, uses_of, IsAmong, HasCell, IsClockShown, IsSideSeen, AreSidesSeen, IsEntry, AreSitesApart, IsStart, CanStart}
 use Rattle.tree_step.specs.Takes as steps
 use Rattle.tree_step.proofs.Plain.{left_asks}
 use Rattle.side_theory.specs.Typed.{AreValuedBefore}
-use Rattle.partition_step.specs.private.Writing.{IsWritten}
+use Rattle.partition_step.specs.Writing.{IsWritten}
 use Rattle.partition_step.proofs.Lists.{some_at, written_at, written_back}
 use Rattle.partition_step.proofs.Placing.{own_there, there}
 use Rattle.moment_body.specs.Stages.{Stages}
@@ -135,7 +135,7 @@ module _ (w : PureUses) (now : Values) (shown : List Cell) (shows : IsWritten (s
     apart e class y among (inr (equation, z, found, asks, is)) reads reached = no_last e equation z among found asks
 
     module _ (S : Assignment) (m : ℕ) (valued : AreValuedBefore s S m) where
-      told : IsClockTold s S m (value_in now) None clock
+      told : IsClockShown s S m (value_in now) None clock
       told = record {
         ticks = before.pure.always.ticks;
         first = λ c is ticking. absurd (none-some c is);
@@ -184,7 +184,7 @@ module _ (w : PureUses) (now : Values) (shown : List Cell) (shows : IsWritten (s
           own = has_cell e.name name_within;
           clock = clock;
           clock_found = ap (slice_get w.always) is_plain.clock ∙ before.pure.always.found;
-          told = subst (λ o. IsClockTold s S m (value_in now) o clock) (sym is_plain.unclocked) told;
+          told = subst (λ o. IsClockShown s S m (value_in now) o clock) (sym is_plain.unclocked) told;
           seen = sides_seen is_plain.equation is_plain.found;
         }
 

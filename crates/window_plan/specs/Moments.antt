@@ -1,6 +1,6 @@
 -- What is planned of a moment. This project's own.
 use Rattle.std.specs.Prelude.{◌≡◌, ℕ, ◌+◌, ◌<◌, List, length, Some, None, slice_get}
-use Rattle.flat_model.specs.Answers.{value_in, truth_in}
+use Rattle.flat_model.specs.Values.{value_in, truth_in}
 use Rattle.flat_model.specs.Assignment.{Assignment}
 use Rattle.flat_model.specs.Given.{Row, with_row}
 use Rattle.flat_model.specs.Moments.{moment_at}

@@ -1,6 +1,6 @@
 //! One moment, planned.
 ghost use Rattle.std.specs.Prelude.{◌≡◌, ◌≢◌, ◌<◌, ◌^◌, [], length, true, false};
-ghost use Rattle.partition_step.specs.private.Writing.{IsWritten};
+ghost use Rattle.partition_step.specs.Writing.{IsWritten};
 ghost use Rattle.window_plan.specs.Drafts.{CanFill, Fills, CanPlanOne, PlansOne};
 
 use crate::moment::PlannedMoment;

@@ -2,7 +2,7 @@
 ghost use Rattle.std.specs.Prelude.{◌≡◌, length};
 ghost use Rattle.tree_step.specs.Starts.{CanStart};
 ghost use Rattle.tree_step.specs.Takes.{TakesUses};
-ghost use Rattle.partition_step.specs.private.Writing.{IsWritten};
+ghost use Rattle.partition_step.specs.Writing.{IsWritten};
 ghost use Rattle.window_plan.specs.Pure.{CanTake, IsSameUses, Takes};
 ghost use Rattle.window_plan.specs.private.Cells as spec;
 

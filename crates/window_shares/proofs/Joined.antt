@@ -1,7 +1,7 @@
 -- One assignment with what all shares left of a window.
 use Rattle.std.proofs.Common.{◌≡◌, refl, ap, ◌∙◌, ℕ, ◌+◌, List, [], Option, Some, None, slice_get}
 use Rattle.std.proofs.Math.Path.{path_j}
-use Rattle.flat_model.specs.Answers.{value_in}
+use Rattle.flat_model.specs.Values.{value_in}
 use Rattle.flat_model.specs.Assignment.{Assignment}
 use Rattle.flat_model.specs.Given.{Row}
 use Rattle.flat_model.specs.Setting.{Setting}

@@ -11,7 +11,7 @@ use Rattle.flat_model.specs.Views.{Views}
 use Rattle.flat_model.specs.Meaning.{value_of, seen_by}
 use Rattle.flat_model.specs.Occurrences.{bare_count, is_reached}
 use Rattle.flat_model.specs.Samples.{samples_are_plain}
-use Rattle.flat_model.specs.Parts.{way_to, kind_of}
+use Rattle.flat_model.specs.Ways.{way_to, kind_of}
 use Rattle.eq_orient.specs.Solving.{Fits, with_now, is_formed}
 
 -- a number as a value, where it has come out

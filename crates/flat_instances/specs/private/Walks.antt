@@ -8,7 +8,7 @@ use Rattle.class_scopes.specs.declared.type_name.TypeName.{TypeName}
 use Rattle.class_scopes.specs.Spelled.{Ident, spelled}
 use Rattle.flat_instances.specs.Instances.{Step, Item, Declared, variable, in_component, items}
 use Rattle.flat_instances.specs.Kept.{seen}
-use Rattle.flat_instances.specs.private.Force.{AreInForce, stepped}
+use Rattle.flat_instances.specs.Force.{AreInForce, stepped}
 
 module _ (text : List ℕ) (classes : List ClassDef) where
   -- items are added at the end

@@ -6,6 +6,7 @@ use Rattle.rational_time.specs.TimeText.{IsNumeral, WritesTime}
 use Rattle.sync_values.specs.declared.value.Value.{Value}
 use Rattle.flat_model.specs.declared.model.NameKind.{NameKind}
 use Rattle.flat_model.specs.Tables.{IsTime}
+use Rattle.rational_time.specs.Fraction.{second_limit}
 use Rattle.input_table.specs.declared.header.Form.{Form}
 use Rattle.input_table.specs.Fields.{Field, Record, IsValue}
 use Rattle.input_table.specs.Rows.{IsInstant}
@@ -40,7 +41,7 @@ pub record WrittenFront (text : List ℕ) (num den : ℕ) (rest : List ℕ) : Ty
 
 -- a fraction, not in lowest terms, of an instant that a table may have
 abbrev pub IsSmall : ℕ → ℕ → Type 0
-IsSmall num den = (0 < den) × (num < 2 ^ 20 * den) × (den < 2 ^ 32)
+IsSmall num den = (0 < den) × (num < second_limit * den) × (den < 2 ^ 32)
 
 -- the field of an instant behind another one, and what follows it
 pub record InstantFront (form : Form) (before : Ratio) (text : List ℕ) (t : Ratio) (rest : List ℕ) : Type 0 where

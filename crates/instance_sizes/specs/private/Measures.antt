@@ -10,7 +10,9 @@ use Rattle.parameter_values.specs.Values.{is_fixed}
 use Rattle.instance_totals.specs.Weights.{number_at}
 use Rattle.class_sizes.specs.Equations.{own_equations}
 use Rattle.item_sizes.specs.Items.{item_equations}
+use Rattle.flat_model.specs.Models.{size_limit}
 use Rattle.instance_sizes.specs.Counts.{equation_count, token_count}
+use Rattle.instance_sizes.specs.N10.{token_limit}
 
 -- the flat name of a variable that is no parameter or constant
 abbrev pub free_name : KeptItem → List Ident
@@ -25,14 +27,14 @@ module _ (text : List ℕ) (classes : List ClassDef) where
 
   -- the instances of a class have more names or equations of their own than the limit, or else not more names
   abbrev pub HasMany : ℕ → Bool → Type 0
-  HasMany root true = (65536 < length (variables text classes (instances text classes root))) ⊎ (65536 < sum_by (item_equations text classes) (instances text classes root))
-  HasMany root false = length (variables text classes (instances text classes root)) ≤ 65536
+  HasMany root true = (size_limit < length (variables text classes (instances text classes root))) ⊎ (size_limit < sum_by (item_equations text classes) (instances text classes root))
+  HasMany root false = length (variables text classes (instances text classes root)) ≤ size_limit
 
   abbrev pub HaveFew : List Item → Type 0
-  HaveFew items = length (variables text classes items) ≤ 65536
+  HaveFew items = length (variables text classes items) ≤ size_limit
 
   module _ (tokens : List Token) where
     -- items count more equations or tokens than the limits, or not
     abbrev pub Exceeds : List Item → Bool → Type 0
-    Exceeds items true = (65536 < equation_count text classes items) ⊎ (4194304 < token_count text classes tokens items)
-    Exceeds items false = (equation_count text classes items ≤ 65536) × (token_count text classes tokens items ≤ 4194304)
+    Exceeds items true = (size_limit < equation_count text classes items) ⊎ (token_limit < token_count text classes tokens items)
+    Exceeds items false = (equation_count text classes items ≤ size_limit) × (token_count text classes tokens items ≤ token_limit)

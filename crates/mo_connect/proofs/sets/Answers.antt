@@ -1,6 +1,6 @@
 use Rattle.std.proofs.Common.{rules, ◌≡◌, ◌∙◌, length}
 use Rattle.mo_connect.specs.Classes.{AreClasses}
-use Rattle.mo_connect.specs.Links.{LinksJoined}
+use Rattle.mo_connect.specs.private.Links.{LinksJoined}
 use Rattle.std.proofs.lemmas.List.{with_items_is}
 use Rattle.mo_connect.proofs.Links.{moved}
 use Rattle.mo_connect.proofs.Partition.{are_classes}

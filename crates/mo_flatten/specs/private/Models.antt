@@ -8,11 +8,12 @@ use Rattle.flat_instances.specs.Instances.{Item, Variable, variables}
 use Rattle.parameter_values.specs.Values.{Values}
 use Rattle.flat_expressions.specs.Equations.{groups, equations_from, clocks_of}
 use Rattle.flat_expressions.specs.Expressions.{NumberOf}
-use Rattle.flat_expressions.specs.declared.items.Told.{Told}
+use Rattle.flat_expressions.specs.declared.items.Lowered.{Lowered}
 use Rattle.connection_equations.specs.Connections.{pairs}
 use Rattle.connection_equations.specs.Sets.{AreEquations}
 use Rattle.flat_answer.specs.Flat.{IsNameOf}
 use Rattle.flat_answer.specs.Model.{plain, number_in}
+use Rattle.flat_model.specs.Models.{size_limit}
 
 module _ (scopes : Scopes) (items : List Item) where
   abbrev pub named : List Variable
@@ -20,7 +21,7 @@ module _ (scopes : Scopes) (items : List Item) where
 
   -- there are at most 65,536 names
   abbrev pub HasFewNames : Type 0
-  HasFewNames = length named ≤ 65536
+  HasFewNames = length named ≤ size_limit
 
   -- the clauses can be counted in 32 bits
   abbrev pub HasFewClauses : Type 0
@@ -28,9 +29,9 @@ module _ (scopes : Scopes) (items : List Item) where
 
   module _ (values : Values) where
     -- the equations and clauses of the items, without those of connections
-    pub record IsTold (number : NumberOf) (told : Told) : Type 0 where
-      pub equations : told.equations ≡ equations_from 0 (groups scopes.named.file.text.now values number scopes.named.file.classes.now items)
-      pub clauses : told.clauses ≡ clocks_of (groups scopes.named.file.text.now values number scopes.named.file.classes.now items)
+    pub record IsLowered (number : NumberOf) (lowered : Lowered) : Type 0 where
+      pub equations : lowered.equations ≡ equations_from 0 (groups scopes.named.file.text.now values number scopes.named.file.classes.now items)
+      pub clauses : lowered.clauses ≡ clocks_of (groups scopes.named.file.text.now values number scopes.named.file.classes.now items)
 
     -- the flat model of the items
     pub record IsModelOf (model : RawModel) : Type 0 where

@@ -13,7 +13,7 @@ use Rattle.scope_names.specs.declared.scopes.Scopes.{Scopes}
 use Rattle.flat_instances.specs.Instances.{instances}
 use Rattle.flat_instances.specs.Kept.{seen}
 use Rattle.flat_instances.specs.declared.item.Item.{Item}
-use Rattle.instance_sizes.specs.Parts.{has_part}
+use Rattle.instance_sizes.specs.Contributing.{contributes}
 use Rattle.flat_answer.specs.Broken.{rank, KeepsBefore, IsFirst}
 
 -- the first broken rule, one that is told at a byte of the text; or memory was refused
@@ -58,7 +58,7 @@ Lexed text (Err end) = end ≡ NoMemory
 pub record AreItems (scopes : Scopes) (items : List Item) : Type 0 where
   pub keeps : KeepsBefore scopes.named.file.text.now scopes.named.file.classes.now (Some scopes.named.chosen) 9
   pub are : map (seen scopes.named.file.text.now scopes.named.file.classes.now) items
-      ≡ filter (has_part scopes.named.file.text.now scopes.named.file.classes.now) (instances scopes.named.file.text.now scopes.named.file.classes.now scopes.named.chosen)
+      ≡ filter (contributes scopes.named.file.text.now scopes.named.file.classes.now) (instances scopes.named.file.text.now scopes.named.file.classes.now scopes.named.chosen)
 
 abbrev pub Sized : Scopes → Result (Vec Item Global) RuleEnd → Type 0
 Sized scopes (Ok items) = AreItems scopes items.items

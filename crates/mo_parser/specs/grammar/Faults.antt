@@ -11,20 +11,20 @@ use Rattle.mo_parser.specs.grammar.Classes.{file}
 use Rattle.mo_parser.specs.grammar.Places.{Front, Swap, head}
 
 -- the tokens up to their end spell the tree, where so many levels of brackets and if-expressions may be opened
-abbrev pub Spells : List ℕ → ℕ → Tree → List Token → Type 0
-Spells text n tree tokens = (rest : List Token) × (file text n).spells tree tokens rest × (is_end (head rest) ≡ true)
+abbrev pub Derives : List ℕ → ℕ → Tree → List Token → Type 0
+Derives text n tree tokens = (rest : List Token) × (file text n).spells tree tokens rest × (is_end (head rest) ≡ true)
 
 -- at most one tree spells a list of tokens
 abbrev pub OneTree : Type 0
-OneTree = (text : List ℕ) (m n : ℕ) (t u : Tree) (tokens : List Token) → Spells text m t tokens → Spells text n u tokens → t ≡ u
+OneTree = (text : List ℕ) (m n : ℕ) (t u : Tree) (tokens : List Token) → Derives text m t tokens → Derives text n u tokens → t ≡ u
 
 -- some list that begins with the tokens before the rest is spelled
 abbrev pub GoesOn : List ℕ → List Token → List Token → Type 0
-GoesOn text tokens rest = (n : ℕ) × (t : Tree) × (a : List Token) × (b : List Token) × Front tokens rest a b × Spells text n t a
+GoesOn text tokens rest = (n : ℕ) × (t : Tree) × (a : List Token) × (b : List Token) × Front tokens rest a b × Derives text n t a
 
 -- no list that begins with these tokens and the first of the rest is spelled
 abbrev pub GoesNoFurther : List ℕ → ℕ → List Token → List Token → Type 0
-GoesNoFurther text n tokens rest = (t : Tree) (a b : List Token) → Swap tokens rest a b → Spells text n t a → ⊥
+GoesNoFurther text n tokens rest = (t : Tree) (a b : List Token) → Swap tokens rest a b → Derives text n t a → ⊥
 
 -- the tokens before the rest stand inside at most n levels, and the next one inside more
 abbrev pub IsDeep : List ℕ → ℕ → List Token → List Token → Type 0
@@ -48,13 +48,13 @@ IsFault text n tokens code.S3 rest = IsRefused text n tokens rest × (is_foreign
 
 -- each list of tokens has a tree or a fault, never both, and at most one fault
 pub record FaultLaw : Type 0 where
-  pub tree_or_fault : (text : List ℕ) (n : ℕ) (tokens : List Token) → ((t : Tree) × Spells text n t tokens) ⊎ ((c : SyntaxCode) × (rest : List Token) × IsFault text n tokens c rest)
-  pub never_both : (text : List ℕ) (n : ℕ) (tokens rest : List Token) (t : Tree) (c : SyntaxCode) → Spells text n t tokens → IsFault text n tokens c rest → ⊥
+  pub tree_or_fault : (text : List ℕ) (n : ℕ) (tokens : List Token) → ((t : Tree) × Derives text n t tokens) ⊎ ((c : SyntaxCode) × (rest : List Token) × IsFault text n tokens c rest)
+  pub never_both : (text : List ℕ) (n : ℕ) (tokens rest : List Token) (t : Tree) (c : SyntaxCode) → Derives text n t tokens → IsFault text n tokens c rest → ⊥
   pub one_fault : (text : List ℕ) (n : ℕ) (tokens rest other : List Token) (c d : SyntaxCode) → IsFault text n tokens c rest → IsFault text n tokens d other → (c ≡ d) × (rest ≡ other)
 
 -- the tree, or a fault with the first byte of its token; want of memory is a free answer
 abbrev pub Answers : List ℕ → ℕ → List Token → Result Tree ParseEnd → Type 0
-Answers text n tokens (Ok tree) = Spells text n tree tokens
+Answers text n tokens (Ok tree) = Derives text n tree tokens
 Answers text n tokens (Err (ends.Fault c at)) = (rest : List Token) × (at ≡ (head rest).at) × IsFault text n tokens c rest
 Answers text n tokens (Err ends.NoMemory) = ⊤
 

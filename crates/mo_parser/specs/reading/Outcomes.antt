@@ -65,8 +65,8 @@ abbrev pub many : {A : Type 0} → (Token → Bool) → (A → Parser A) → A �
 many test step x ts = turns test step (length ts) x ts
 
 -- what a function that reads answers: the outcome, unless memory fails
-abbrev pub Reads : {A : Type 0} → Outcome A → Result A Halt → List Token → Type 0
-Reads outcome (Ok x) rest = outcome ≡ Read x rest
-Reads outcome (Err halt.NoMemory) rest = ⊤
-Reads outcome (Err halt.Stuck) rest = outcome ≡ Stuck rest
-Reads outcome (Err halt.Deep) rest = outcome ≡ Deep rest
+abbrev pub ReadsTokens : {A : Type 0} → Outcome A → Result A Halt → List Token → Type 0
+ReadsTokens outcome (Ok x) rest = outcome ≡ Read x rest
+ReadsTokens outcome (Err halt.NoMemory) rest = ⊤
+ReadsTokens outcome (Err halt.Stuck) rest = outcome ≡ Stuck rest
+ReadsTokens outcome (Err halt.Deep) rest = outcome ≡ Deep rest

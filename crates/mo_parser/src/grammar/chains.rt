@@ -5,7 +5,7 @@ ghost use Rattle.mo_lexer.specs.declared.token.Token.{Token};
 ghost use Rattle.mo_parser.specs.declared.tree.TreeExpr.{TreeExpr};
 ghost use Rattle.mo_parser.specs.grammar.Kinds as kinds;
 ghost use Rattle.mo_parser.specs.grammar.Trees as trees;
-ghost use Rattle.mo_parser.specs.reading.Outcomes.{Parser, Reads, many, one_by};
+ghost use Rattle.mo_parser.specs.reading.Outcomes.{Parser, ReadsTokens, many, one_by};
 ghost use Rattle.mo_parser.specs.reading.Expressions as spec;
 ghost use Rattle.mo_parser.specs.reading.Nests.{Nests};
 
@@ -35,7 +35,7 @@ pub trait Chain {
         tokens: &mut Tokens<'_>,
     ) -> Result<TreeExpr, Halt>
         requires { Nests grammar.now.depth (F.pre grammar.now.expr) (F.post grammar.now.expr) }
-        ensures { Reads (part_by (spec.expr grammar.now.depth) tokens.old) result tokens.new };
+        ensures { ReadsTokens (part_by (spec.expr grammar.now.depth) tokens.old) result tokens.new };
 }
 
 /// `factor { ("*"|"/") factor }`
@@ -173,7 +173,7 @@ fn chained(at: u32, links: Links) -> TreeExpr
 
 /// The operator that the next token was found to be.
 fn operator(tokens: &mut Tokens<'_>, found: Option<ChainOp>) -> Result<ChainOp, Halt>
-    ensures { Reads (one_by found tokens.old) result tokens.new }
+    ensures { ReadsTokens (one_by found tokens.old) result tokens.new }
 {
     let Some(op) = found else {
         return Err(Halt::Stuck);
@@ -187,7 +187,7 @@ impl<F: Fn(Global, &mut Tokens<'_>, usize) -> Result<TreeExpr, Halt>> Grammar<F>
     #[tactic(auto, unfolding(crate::specs::reading::Expressions::link))]
     fn link<C: Chain>(&self, tokens: &mut Tokens<'_>, links: Links) -> Result<Links, Halt>
         requires { Nests self.now.depth (F.pre self.now.expr) (F.post self.now.expr) }
-        ensures { Reads (spec.link C.op_by (C.part_by (spec.expr self.now.depth)) links tokens.old) result tokens.new }
+        ensures { ReadsTokens (spec.link C.op_by (C.part_by (spec.expr self.now.depth)) links tokens.old) result tokens.new }
     {
         let op = operator(tokens, C::op_of(tokens.peek()))?;
         let part = C::part(self, tokens)?;
@@ -198,7 +198,7 @@ impl<F: Fn(Global, &mut Tokens<'_>, usize) -> Result<TreeExpr, Halt>> Grammar<F>
     #[tactic(auto, unfolding(crate::specs::reading::Outcomes::turns))]
     fn more_links<C: Chain>(&self, tokens: &mut Tokens<'_>, mut links: Links) -> Result<Links, Halt>
         requires { Nests self.now.depth (F.pre self.now.expr) (F.post self.now.expr) }
-        ensures { Reads (many (spec.is_op C.op_by) (spec.link C.op_by (C.part_by (spec.expr self.now.depth))) links tokens.old) result tokens.new }
+        ensures { ReadsTokens (many (spec.is_op C.op_by) (spec.link C.op_by (C.part_by (spec.expr self.now.depth))) links tokens.old) result tokens.new }
     {
         for _turn in 0..tokens.count() {
             if C::op_of(tokens.peek()).is_none() {
@@ -217,7 +217,7 @@ impl<F: Fn(Global, &mut Tokens<'_>, usize) -> Result<TreeExpr, Halt>> Grammar<F>
         first: TreeExpr,
     ) -> Result<TreeExpr, Halt>
         requires { Nests self.now.depth (F.pre self.now.expr) (F.post self.now.expr) }
-        ensures { Reads (spec.links C.op_by (C.part_by (spec.expr self.now.depth)) first tokens.old) result tokens.new }
+        ensures { ReadsTokens (spec.links C.op_by (C.part_by (spec.expr self.now.depth)) first tokens.old) result tokens.new }
     {
         if C::op_of(tokens.peek()).is_none() {
             return Ok(first);

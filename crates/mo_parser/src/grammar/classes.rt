@@ -3,7 +3,7 @@ ghost use Rattle.std.specs.Prelude.{◌≡◌, length};
 ghost use Rattle.mo_lexer.specs.declared.token.Word.TheVariants as w;
 ghost use Rattle.mo_parser.specs.grammar.Kinds as kinds;
 ghost use Rattle.mo_parser.specs.reading.Starts as starts;
-ghost use Rattle.mo_parser.specs.reading.Outcomes.{Reads, dropped, many, one};
+ghost use Rattle.mo_parser.specs.reading.Outcomes.{ReadsTokens, dropped, many, one};
 ghost use Rattle.mo_parser.specs.reading.Classes as spec;
 
 use super::comments::{comment, note, some_texts};
@@ -24,7 +24,7 @@ use sync_values::List;
 /// `"within" [ name ] ";"`
 #[tactic(auto, unfolding(crate::specs::reading::Classes::within))]
 fn within(alloc: Global, tokens: &mut Tokens<'_>) -> Result<(), Halt>
-    ensures { Reads (spec.within tokens.old) result tokens.new }
+    ensures { ReadsTokens (spec.within tokens.old) result tokens.new }
 {
     word(tokens, Word::KwWithin)?;
     if is_ident(tokens.peek()) {
@@ -36,7 +36,7 @@ fn within(alloc: Global, tokens: &mut Tokens<'_>) -> Result<(), Halt>
 
 /// `[ "within" [ name ] ";" ]`
 fn some_within(alloc: Global, tokens: &mut Tokens<'_>) -> Result<(), Halt>
-    ensures { Reads (dropped (kinds.is_word w.KwWithin) spec.within tokens.old) result tokens.new }
+    ensures { ReadsTokens (dropped (kinds.is_word w.KwWithin) spec.within tokens.old) result tokens.new }
 {
     if is_word(tokens.peek(), Word::KwWithin) {
         within(alloc, tokens)?;
@@ -47,7 +47,7 @@ fn some_within(alloc: Global, tokens: &mut Tokens<'_>) -> Result<(), Halt>
 /// An `Ident` that is spelled as the class's own.
 #[tactic(auto, unfolding(crate::specs::reading::Classes::same_ident))]
 fn same_ident(text: &[u8], tokens: &mut Tokens<'_>, own: Token) -> Result<Token, Halt>
-    ensures { Reads (spec.same_ident text.now own tokens.old) result tokens.new }
+    ensures { ReadsTokens (spec.same_ident text.now own tokens.old) result tokens.new }
 {
     let next = tokens.peek();
     if !is_ident(next) || !same_name(text, own, next) {
@@ -59,7 +59,7 @@ fn same_ident(text: &[u8], tokens: &mut Tokens<'_>, own: Token) -> Result<Token,
 
 /// The first word of a class that is no connector.
 fn class_kind(tokens: &mut Tokens<'_>) -> Result<ClassKind, Halt>
-    ensures { Reads (one kinds.class_of tokens.old) result tokens.new }
+    ensures { ReadsTokens (one kinds.class_of tokens.old) result tokens.new }
 {
     let Some(found) = class_of(tokens.peek()) else {
         return Err(Halt::Stuck);
@@ -70,7 +70,7 @@ fn class_kind(tokens: &mut Tokens<'_>) -> Result<ClassKind, Halt>
 
 /// The word before further elements.
 fn visibility(tokens: &mut Tokens<'_>) -> Result<(), Halt>
-    ensures { Reads (one kinds.visibility_of tokens.old) result tokens.new }
+    ensures { ReadsTokens (one kinds.visibility_of tokens.old) result tokens.new }
 {
     let Some(found) = visibility_of(tokens.peek()) else {
         return Err(Halt::Stuck);
@@ -83,7 +83,7 @@ impl Reader {
     /// `("public"|"protected") { element } | "equation" { equation }`
     #[tactic(auto, unfolding(crate::specs::reading::Classes::section))]
     fn section(&self, tokens: &mut Tokens<'_>, body: Body) -> Result<Body, Halt>
-        ensures { Reads (spec.section self.now.depth body tokens.old) result tokens.new }
+        ensures { ReadsTokens (spec.section self.now.depth body tokens.old) result tokens.new }
     {
         let Body {
             elements,
@@ -108,7 +108,7 @@ impl Reader {
     /// `{ section }`
     #[tactic(auto, unfolding(crate::specs::reading::Outcomes::turns))]
     fn sections(&self, tokens: &mut Tokens<'_>, mut body: Body) -> Result<Body, Halt>
-        ensures { Reads (many starts.begins_section (spec.section self.now.depth) body tokens.old) result tokens.new }
+        ensures { ReadsTokens (many starts.begins_section (spec.section self.now.depth) body tokens.old) result tokens.new }
     {
         for _turn in 0..tokens.count() {
             if !begins_section(tokens.peek()) {
@@ -122,7 +122,7 @@ impl Reader {
     /// `note ";"`
     #[tactic(auto, unfolding(crate::specs::reading::Classes::last_note))]
     fn last_note(&self, tokens: &mut Tokens<'_>) -> Result<(), Halt>
-        ensures { Reads (spec.last_note self.now.depth tokens.old) result tokens.new }
+        ensures { ReadsTokens (spec.last_note self.now.depth tokens.old) result tokens.new }
     {
         note(tokens, self.depth)?;
         symbol(tokens, Sym::Semicolon)?;
@@ -132,7 +132,7 @@ impl Reader {
     /// `[ note ";" ] "end" Ident`, with the class's own `Ident`
     #[tactic(auto, unfolding(crate::specs::reading::Classes::ending))]
     fn ending(&self, text: &[u8], tokens: &mut Tokens<'_>, own: Token) -> Result<(), Halt>
-        ensures { Reads (spec.ending text.now self.now.depth own tokens.old) result tokens.new }
+        ensures { ReadsTokens (spec.ending text.now self.now.depth own tokens.old) result tokens.new }
     {
         if is_word(tokens.peek(), Word::KwAnnotation) {
             self.last_note(tokens)?;
@@ -145,7 +145,7 @@ impl Reader {
     /// `[ texts ] { element } { section } [ note ";" ] "end" Ident`
     #[tactic(auto, unfolding(crate::specs::reading::Classes::long))]
     fn long(&self, text: &[u8], tokens: &mut Tokens<'_>, own: Token) -> Result<Body, Halt>
-        ensures { Reads (spec.long text.now self.now.depth own tokens.old) result tokens.new }
+        ensures { ReadsTokens (spec.long text.now self.now.depth own tokens.old) result tokens.new }
     {
         some_texts(tokens)?;
         let elements = self.elements(tokens, List::new(self.alloc))?;
@@ -160,7 +160,7 @@ impl Reader {
     /// `[ texts ] { element } [ note ";" ] "end" Ident`
     #[tactic(auto, unfolding(crate::specs::reading::Classes::plain))]
     fn plain(&self, text: &[u8], tokens: &mut Tokens<'_>, own: Token) -> Result<Body, Halt>
-        ensures { Reads (spec.plain text.now self.now.depth own tokens.old) result tokens.new }
+        ensures { ReadsTokens (spec.plain text.now self.now.depth own tokens.old) result tokens.new }
     {
         some_texts(tokens)?;
         let elements = self.elements(tokens, List::new(self.alloc))?;
@@ -174,7 +174,7 @@ impl Reader {
     /// `[ "(" [ args ] ")" ]`
     #[tactic(auto, unfolding(crate::specs::reading::Classes::short_args))]
     fn short_args(&self, tokens: &mut Tokens<'_>) -> Result<List<Arg>, Halt>
-        ensures { Reads (spec.short_args self.now.depth tokens.old) result tokens.new }
+        ensures { ReadsTokens (spec.short_args self.now.depth tokens.old) result tokens.new }
     {
         if !is_symbol(tokens.peek(), Sym::RoundOpen) {
             return Ok(List::new(self.alloc));
@@ -186,7 +186,7 @@ impl Reader {
     /// `"=" [ "input"|"output" ] name [ "(" [ args ] ")" ] comment`
     #[tactic(auto, unfolding(crate::specs::reading::Classes::short))]
     fn short(&self, tokens: &mut Tokens<'_>) -> Result<Short, Halt>
-        ensures { Reads (spec.short self.now.depth tokens.old) result tokens.new }
+        ensures { ReadsTokens (spec.short self.now.depth tokens.old) result tokens.new }
     {
         symbol(tokens, Sym::Equals)?;
         let causality = some_causality(tokens)?;
@@ -202,7 +202,7 @@ impl Reader {
     /// `("model"|"block"|"class") Ident long`
     #[tactic(auto, unfolding(crate::specs::reading::Classes::long_class))]
     fn long_class(&self, text: &[u8], tokens: &mut Tokens<'_>) -> Result<ClassDef, Halt>
-        ensures { Reads (spec.long_class text.now self.now.depth tokens.old) result tokens.new }
+        ensures { ReadsTokens (spec.long_class text.now self.now.depth tokens.old) result tokens.new }
     {
         let kind = class_kind(tokens)?;
         let own = ident(tokens)?;
@@ -222,7 +222,7 @@ impl Reader {
     /// `"connector" Ident ( plain | "=" short )`
     #[tactic(auto, unfolding(crate::specs::reading::Classes::connector))]
     fn connector(&self, text: &[u8], tokens: &mut Tokens<'_>) -> Result<ClassDef, Halt>
-        ensures { Reads (spec.connector text.now self.now.depth tokens.old) result tokens.new }
+        ensures { ReadsTokens (spec.connector text.now self.now.depth tokens.old) result tokens.new }
     {
         word(tokens, Word::KwConnector)?;
         let own = ident(tokens)?;
@@ -252,7 +252,7 @@ impl Reader {
     /// `long_class | connector`
     #[tactic(auto, unfolding(crate::specs::reading::Classes::any_class))]
     fn any_class(&self, text: &[u8], tokens: &mut Tokens<'_>) -> Result<ClassDef, Halt>
-        ensures { Reads (spec.any_class text.now self.now.depth tokens.old) result tokens.new }
+        ensures { ReadsTokens (spec.any_class text.now self.now.depth tokens.old) result tokens.new }
     {
         if is_word(tokens.peek(), Word::KwConnector) {
             self.connector(text, tokens)
@@ -269,7 +269,7 @@ impl Reader {
         tokens: &mut Tokens<'_>,
         mut all: List<ClassDef>,
     ) -> Result<List<ClassDef>, Halt>
-        ensures { Reads (spec.class_line text.now self.now.depth all tokens.old) result tokens.new }
+        ensures { ReadsTokens (spec.class_line text.now self.now.depth all tokens.old) result tokens.new }
     {
         all.push(self.any_class(text, tokens)?)?;
         symbol(tokens, Sym::Semicolon).and(Ok(all))
@@ -283,7 +283,7 @@ impl Reader {
         tokens: &mut Tokens<'_>,
         mut all: List<ClassDef>,
     ) -> Result<List<ClassDef>, Halt>
-        ensures { Reads (many starts.begins_class (spec.class_line text.now self.now.depth) all tokens.old) result tokens.new }
+        ensures { ReadsTokens (many starts.begins_class (spec.class_line text.now self.now.depth) all tokens.old) result tokens.new }
     {
         for _turn in 0..tokens.count() {
             if !begins_class(tokens.peek()) {
@@ -297,7 +297,7 @@ impl Reader {
     /// A whole file, up to the token `End`.
     #[tactic(auto, unfolding(crate::specs::reading::Classes::file))]
     pub fn file(&self, text: &[u8], tokens: &mut Tokens<'_>) -> Result<Tree, Halt>
-        ensures { Reads (spec.file text.now self.now.depth tokens.old) result tokens.new }
+        ensures { ReadsTokens (spec.file text.now self.now.depth tokens.old) result tokens.new }
     {
         some_within(self.alloc, tokens)?;
         let classes = self.class_lines(text, tokens, List::new(self.alloc))?;

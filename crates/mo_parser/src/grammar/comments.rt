@@ -3,7 +3,7 @@ ghost use Rattle.std.specs.Prelude.{◌≡◌, length};
 ghost use Rattle.mo_lexer.specs.declared.token.Sym.TheVariants as s;
 ghost use Rattle.mo_parser.specs.grammar.Kinds as kinds;
 ghost use Rattle.mo_parser.specs.reading.Starts as starts;
-ghost use Rattle.mo_parser.specs.reading.Outcomes.{Reads, dropped, many};
+ghost use Rattle.mo_parser.specs.reading.Outcomes.{ReadsTokens, dropped, many};
 ghost use Rattle.mo_parser.specs.reading.Comments as spec;
 ghost use Rattle.mo_parser.specs.reading.Nests.{NestsPairs};
 
@@ -15,7 +15,7 @@ use mo_lexer::{Sym, Word};
 /// `"+" Text`
 #[tactic(auto, unfolding(crate::specs::reading::Comments::more_text))]
 fn more_text(tokens: &mut Tokens<'_>) -> Result<(), Halt>
-    ensures { Reads (spec.more_text tt tokens.old) result tokens.new }
+    ensures { ReadsTokens (spec.more_text tt tokens.old) result tokens.new }
 {
     symbol(tokens, Sym::Plus)?;
     text(tokens)?;
@@ -25,7 +25,7 @@ fn more_text(tokens: &mut Tokens<'_>) -> Result<(), Halt>
 /// `{ "+" Text }`
 #[tactic(auto, unfolding(crate::specs::reading::Outcomes::turns))]
 fn more_texts(tokens: &mut Tokens<'_>) -> Result<(), Halt>
-    ensures { Reads (many (kinds.is_symbol s.Plus) spec.more_text tt tokens.old) result tokens.new }
+    ensures { ReadsTokens (many (kinds.is_symbol s.Plus) spec.more_text tt tokens.old) result tokens.new }
 {
     for _turn in 0..tokens.count() {
         if !is_symbol(tokens.peek(), Sym::Plus) {
@@ -39,7 +39,7 @@ fn more_texts(tokens: &mut Tokens<'_>) -> Result<(), Halt>
 /// `Text { "+" Text }`
 #[tactic(auto, unfolding(crate::specs::reading::Comments::texts))]
 fn texts(tokens: &mut Tokens<'_>) -> Result<(), Halt>
-    ensures { Reads (spec.texts tokens.old) result tokens.new }
+    ensures { ReadsTokens (spec.texts tokens.old) result tokens.new }
 {
     text(tokens)?;
     more_texts(tokens)
@@ -47,7 +47,7 @@ fn texts(tokens: &mut Tokens<'_>) -> Result<(), Halt>
 
 /// A description string, where one stands.
 pub fn some_texts(tokens: &mut Tokens<'_>) -> Result<(), Halt>
-    ensures { Reads (dropped kinds.is_text spec.texts tokens.old) result tokens.new }
+    ensures { ReadsTokens (dropped kinds.is_text spec.texts tokens.old) result tokens.new }
 {
     if is_text(tokens.peek()) {
         texts(tokens)?;
@@ -58,7 +58,7 @@ pub fn some_texts(tokens: &mut Tokens<'_>) -> Result<(), Halt>
 /// A token that is no bracket and not the end.
 #[tactic(auto, unfolding(crate::specs::reading::Comments::plain))]
 fn plain(tokens: &mut Tokens<'_>) -> Result<(), Halt>
-    ensures { Reads (spec.plain tokens.old) result tokens.new }
+    ensures { ReadsTokens (spec.plain tokens.old) result tokens.new }
 {
     if !is_plain(tokens.peek()) {
         return Err(Halt::Stuck);
@@ -79,7 +79,7 @@ impl<F: Fn(&mut Tokens<'_>, usize) -> Result<(), Halt>> Pairs<F> {
     /// The tokens in a bracket, one level deeper.
     fn nested(&self, tokens: &mut Tokens<'_>) -> Result<(), Halt>
         requires { NestsPairs self.now.depth (F.pre self.now.balanced) (F.post self.now.balanced) }
-        ensures { Reads (spec.balanced self.now.depth tokens.old) result tokens.new }
+        ensures { ReadsTokens (spec.balanced self.now.depth tokens.old) result tokens.new }
     {
         (self.balanced)(tokens, self.depth)
     }
@@ -88,7 +88,7 @@ impl<F: Fn(&mut Tokens<'_>, usize) -> Result<(), Halt>> Pairs<F> {
     #[tactic(auto, unfolding(crate::specs::reading::Comments::in_pair))]
     fn in_pair(&self, tokens: &mut Tokens<'_>, close: Sym) -> Result<(), Halt>
         requires { NestsPairs self.now.depth (F.pre self.now.balanced) (F.post self.now.balanced) }
-        ensures { Reads (spec.in_pair (spec.balanced self.now.depth) close tokens.old) result tokens.new }
+        ensures { ReadsTokens (spec.in_pair (spec.balanced self.now.depth) close tokens.old) result tokens.new }
     {
         if !is_symbol(tokens.peek(), close) {
             self.nested(tokens)?;
@@ -101,7 +101,7 @@ impl<F: Fn(&mut Tokens<'_>, usize) -> Result<(), Halt>> Pairs<F> {
     #[tactic(auto, unfolding(crate::specs::reading::Comments::piece))]
     fn piece(&self, tokens: &mut Tokens<'_>) -> Result<(), Halt>
         requires { NestsPairs self.now.depth (F.pre self.now.balanced) (F.post self.now.balanced) }
-        ensures { Reads (spec.piece (spec.balanced self.now.depth) tt tokens.old) result tokens.new }
+        ensures { ReadsTokens (spec.piece (spec.balanced self.now.depth) tt tokens.old) result tokens.new }
     {
         let next = tokens.peek();
         if is_plain(next) {
@@ -123,7 +123,7 @@ impl<F: Fn(&mut Tokens<'_>, usize) -> Result<(), Halt>> Pairs<F> {
     #[tactic(auto, unfolding(crate::specs::reading::Outcomes::turns))]
     fn more_pieces(&self, tokens: &mut Tokens<'_>) -> Result<(), Halt>
         requires { NestsPairs self.now.depth (F.pre self.now.balanced) (F.post self.now.balanced) }
-        ensures { Reads (many starts.begins_balanced (spec.piece (spec.balanced self.now.depth)) tt tokens.old) result tokens.new }
+        ensures { ReadsTokens (many starts.begins_balanced (spec.piece (spec.balanced self.now.depth)) tt tokens.old) result tokens.new }
     {
         for _turn in 0..tokens.count() {
             if !begins_balanced(tokens.peek()) {
@@ -138,7 +138,7 @@ impl<F: Fn(&mut Tokens<'_>, usize) -> Result<(), Halt>> Pairs<F> {
     #[tactic(auto, unfolding(crate::specs::reading::Comments::pieces))]
     fn pieces(&self, tokens: &mut Tokens<'_>) -> Result<(), Halt>
         requires { NestsPairs self.now.depth (F.pre self.now.balanced) (F.post self.now.balanced) }
-        ensures { Reads (spec.pieces (spec.balanced self.now.depth) tokens.old) result tokens.new }
+        ensures { ReadsTokens (spec.pieces (spec.balanced self.now.depth) tokens.old) result tokens.new }
     {
         self.piece(tokens)?;
         self.more_pieces(tokens)
@@ -148,7 +148,7 @@ impl<F: Fn(&mut Tokens<'_>, usize) -> Result<(), Halt>> Pairs<F> {
     #[tactic(auto, unfolding(crate::specs::reading::Comments::note))]
     fn note(&self, tokens: &mut Tokens<'_>) -> Result<(), Halt>
         requires { NestsPairs self.now.depth (F.pre self.now.balanced) (F.post self.now.balanced) }
-        ensures { Reads (spec.note (spec.balanced self.now.depth) tokens.old) result tokens.new }
+        ensures { ReadsTokens (spec.note (spec.balanced self.now.depth) tokens.old) result tokens.new }
     {
         word(tokens, Word::KwAnnotation)?;
         symbol(tokens, Sym::RoundOpen)?;
@@ -158,7 +158,7 @@ impl<F: Fn(&mut Tokens<'_>, usize) -> Result<(), Halt>> Pairs<F> {
 
 /// The tokens of a note in a bracket, at least one, inside fewer levels than the number.
 pub fn balanced(tokens: &mut Tokens<'_>, depth: usize) -> Result<(), Halt>
-    ensures { Reads (spec.balanced depth tokens.old) result tokens.new }
+    ensures { ReadsTokens (spec.balanced depth tokens.old) result tokens.new }
 {
     if depth == 0 {
         return Err(Halt::Deep);
@@ -172,7 +172,7 @@ pub fn balanced(tokens: &mut Tokens<'_>, depth: usize) -> Result<(), Halt>
 
 /// An annotation in which so many levels may be opened behind its first bracket.
 pub fn note(tokens: &mut Tokens<'_>, depth: usize) -> Result<(), Halt>
-    ensures { Reads (spec.note (spec.balanced depth) tokens.old) result tokens.new }
+    ensures { ReadsTokens (spec.note (spec.balanced depth) tokens.old) result tokens.new }
 {
     Pairs { depth, balanced }.note(tokens)
 }
@@ -180,7 +180,7 @@ pub fn note(tokens: &mut Tokens<'_>, depth: usize) -> Result<(), Halt>
 /// A description string and an annotation, each where one stands.
 #[tactic(auto, unfolding(crate::specs::reading::Comments::comment))]
 pub fn comment(tokens: &mut Tokens<'_>, depth: usize) -> Result<(), Halt>
-    ensures { Reads (spec.comment (spec.balanced depth) tokens.old) result tokens.new }
+    ensures { ReadsTokens (spec.comment (spec.balanced depth) tokens.old) result tokens.new }
 {
     some_texts(tokens)?;
     if is_word(tokens.peek(), Word::KwAnnotation) {

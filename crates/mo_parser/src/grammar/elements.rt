@@ -3,7 +3,7 @@ ghost use Rattle.std.specs.Prelude.{◌≡◌, IfOk, IfErr, length};
 ghost use Rattle.mo_lexer.specs.declared.token.Sym.TheVariants as s;
 ghost use Rattle.mo_parser.specs.grammar.Kinds as kinds;
 ghost use Rattle.mo_parser.specs.grammar.Elements.{element_of};
-ghost use Rattle.mo_parser.specs.reading.Outcomes.{Reads, many};
+ghost use Rattle.mo_parser.specs.reading.Outcomes.{ReadsTokens, many};
 ghost use Rattle.mo_parser.specs.reading.Elements as spec;
 
 use super::comments::comment;
@@ -21,7 +21,7 @@ use sync_values::List;
 /// `[ "parameter"|"constant"|"discrete" ]`
 #[tactic(auto, unfolding(crate::specs::reading::Elements::some_variability))]
 fn some_variability(tokens: &mut Tokens<'_>) -> Result<Variability, Halt>
-    ensures { Reads (spec.some_variability tokens.old) result tokens.new }
+    ensures { ReadsTokens (spec.some_variability tokens.old) result tokens.new }
 {
     let Some(found) = variability_of(tokens.peek()) else {
         return Ok(Variability::Plain);
@@ -33,7 +33,7 @@ fn some_variability(tokens: &mut Tokens<'_>) -> Result<Variability, Halt>
 /// `[ "input"|"output" ]`
 #[tactic(auto, unfolding(crate::specs::reading::Elements::some_causality))]
 pub fn some_causality(tokens: &mut Tokens<'_>) -> Result<Causality, Halt>
-    ensures { Reads (spec.some_causality tokens.old) result tokens.new }
+    ensures { ReadsTokens (spec.some_causality tokens.old) result tokens.new }
 {
     let Some(found) = causality_of(tokens.peek()) else {
         return Ok(Causality::Plain);
@@ -77,7 +77,7 @@ fn element_of(
 /// `[ "parameter"|"constant"|"discrete" ] [ "input"|"output" ] name`
 #[tactic(auto, unfolding(crate::specs::reading::Elements::declared))]
 fn declared(alloc: Global, tokens: &mut Tokens<'_>) -> Result<Declared, Halt>
-    ensures { Reads (spec.declared tokens.old) result tokens.new }
+    ensures { ReadsTokens (spec.declared tokens.old) result tokens.new }
 {
     let variability = some_variability(tokens)?;
     let causality = some_causality(tokens)?;
@@ -98,7 +98,7 @@ impl Reader {
         declared: &Declared,
         mut all: List<Element>,
     ) -> Result<List<Element>, Halt>
-        ensures { Reads (spec.component self.now.depth declared.now all tokens.old) result tokens.new }
+        ensures { ReadsTokens (spec.component self.now.depth declared.now all tokens.old) result tokens.new }
     {
         let token = ident(tokens)?;
         let modification = modification(self.alloc, tokens, self.depth)?;
@@ -115,7 +115,7 @@ impl Reader {
         declared: &Declared,
         all: List<Element>,
     ) -> Result<List<Element>, Halt>
-        ensures { Reads (spec.further_component self.now.depth declared.now all tokens.old) result tokens.new }
+        ensures { ReadsTokens (spec.further_component self.now.depth declared.now all tokens.old) result tokens.new }
     {
         symbol(tokens, Sym::Comma)?;
         self.component(tokens, declared, all)
@@ -129,7 +129,7 @@ impl Reader {
         declared: &Declared,
         mut all: List<Element>,
     ) -> Result<List<Element>, Halt>
-        ensures { Reads (many (kinds.is_symbol s.Comma) (spec.further_component self.now.depth declared.now) all tokens.old) result tokens.new }
+        ensures { ReadsTokens (many (kinds.is_symbol s.Comma) (spec.further_component self.now.depth declared.now) all tokens.old) result tokens.new }
     {
         for _turn in 0..tokens.count() {
             if !is_symbol(tokens.peek(), Sym::Comma) {
@@ -148,7 +148,7 @@ impl Reader {
         declared: &Declared,
         all: List<Element>,
     ) -> Result<List<Element>, Halt>
-        ensures { Reads (spec.components self.now.depth declared.now all tokens.old) result tokens.new }
+        ensures { ReadsTokens (spec.components self.now.depth declared.now all tokens.old) result tokens.new }
     {
         let all = self.component(tokens, declared, all)?;
         self.more_components(tokens, declared, all)
@@ -157,7 +157,7 @@ impl Reader {
     /// `declared component { "," component } ";"`
     #[tactic(auto, unfolding(crate::specs::reading::Elements::element))]
     fn element(&self, tokens: &mut Tokens<'_>, all: List<Element>) -> Result<List<Element>, Halt>
-        ensures { Reads (spec.element self.now.depth all tokens.old) result tokens.new }
+        ensures { ReadsTokens (spec.element self.now.depth all tokens.old) result tokens.new }
     {
         let declared = declared(self.alloc, tokens)?;
         let all = self.components(tokens, &declared, all)?;
@@ -171,7 +171,7 @@ impl Reader {
         tokens: &mut Tokens<'_>,
         mut all: List<Element>,
     ) -> Result<List<Element>, Halt>
-        ensures { Reads (spec.elements self.now.depth all tokens.old) result tokens.new }
+        ensures { ReadsTokens (spec.elements self.now.depth all tokens.old) result tokens.new }
     {
         for _turn in 0..tokens.count() {
             if !begins_element(tokens.peek()) {

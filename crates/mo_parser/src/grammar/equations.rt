@@ -1,7 +1,7 @@
 //! Equations of classes.
 ghost use Rattle.std.specs.Prelude.{◌≡◌, length};
 ghost use Rattle.mo_parser.specs.reading.Starts as starts;
-ghost use Rattle.mo_parser.specs.reading.Outcomes.{Reads, many};
+ghost use Rattle.mo_parser.specs.reading.Outcomes.{ReadsTokens, many};
 ghost use Rattle.mo_parser.specs.reading.Equations as spec;
 
 use super::comments::comment;
@@ -18,7 +18,7 @@ use sync_values::List;
 /// `"connect" "(" name "," name ")"`
 #[tactic(auto, unfolding(crate::specs::reading::Equations::connect))]
 fn connect(alloc: Global, tokens: &mut Tokens<'_>) -> Result<TreeEq, Halt>
-    ensures { Reads (spec.connect tokens.old) result tokens.new }
+    ensures { ReadsTokens (spec.connect tokens.old) result tokens.new }
 {
     word(tokens, Word::KwConnect)?;
     symbol(tokens, Sym::RoundOpen)?;
@@ -32,7 +32,7 @@ impl Reader {
     /// `"=" expr`
     #[tactic(auto, unfolding(crate::specs::reading::Equations::right_side))]
     fn right_side(&self, tokens: &mut Tokens<'_>) -> Result<TreeExpr, Halt>
-        ensures { Reads (spec.right_side self.now.depth tokens.old) result tokens.new }
+        ensures { ReadsTokens (spec.right_side self.now.depth tokens.old) result tokens.new }
     {
         symbol(tokens, Sym::Equals)?;
         whole_expr(self.alloc, tokens, self.depth)
@@ -41,7 +41,7 @@ impl Reader {
     /// `simple "=" expr`
     #[tactic(auto, unfolding(crate::specs::reading::Equations::equal))]
     fn equal(&self, tokens: &mut Tokens<'_>) -> Result<TreeEq, Halt>
-        ensures { Reads (spec.equal self.now.depth tokens.old) result tokens.new }
+        ensures { ReadsTokens (spec.equal self.now.depth tokens.old) result tokens.new }
     {
         let left = simple_expr(self.alloc, tokens, self.depth)?;
         let right = self.right_side(tokens);
@@ -55,7 +55,7 @@ impl Reader {
         tokens: &mut Tokens<'_>,
         mut all: List<TreeEq>,
     ) -> Result<List<TreeEq>, Halt>
-        ensures { Reads (spec.clause_equation self.now.depth all tokens.old) result tokens.new }
+        ensures { ReadsTokens (spec.clause_equation self.now.depth all tokens.old) result tokens.new }
     {
         all.push(self.equal(tokens)?)?;
         comment(tokens, self.depth)?;
@@ -69,7 +69,7 @@ impl Reader {
         tokens: &mut Tokens<'_>,
         mut all: List<TreeEq>,
     ) -> Result<List<TreeEq>, Halt>
-        ensures { Reads (many starts.begins_simple (spec.clause_equation self.now.depth) all tokens.old) result tokens.new }
+        ensures { ReadsTokens (many starts.begins_simple (spec.clause_equation self.now.depth) all tokens.old) result tokens.new }
     {
         for _turn in 0..tokens.count() {
             if !begins_simple(tokens.peek()) {
@@ -83,7 +83,7 @@ impl Reader {
     /// `"then" { simple "=" expr comment ";" } "end" "when"`
     #[tactic(auto, unfolding(crate::specs::reading::Equations::clause_body))]
     fn clause_body(&self, tokens: &mut Tokens<'_>) -> Result<List<TreeEq>, Halt>
-        ensures { Reads (spec.clause_body self.now.depth tokens.old) result tokens.new }
+        ensures { ReadsTokens (spec.clause_body self.now.depth tokens.old) result tokens.new }
     {
         word(tokens, Word::KwThen)?;
         let equations = self.clause_equations(tokens, List::new(self.alloc))?;
@@ -94,7 +94,7 @@ impl Reader {
     /// `"when" expr "then" { simple "=" expr comment ";" } "end" "when"`
     #[tactic(auto, unfolding(crate::specs::reading::Equations::clause))]
     fn clause(&self, tokens: &mut Tokens<'_>) -> Result<TreeEq, Halt>
-        ensures { Reads (spec.clause self.now.depth tokens.old) result tokens.new }
+        ensures { ReadsTokens (spec.clause self.now.depth tokens.old) result tokens.new }
     {
         word(tokens, Word::KwWhen)?;
         let clock = whole_expr(self.alloc, tokens, self.depth)?;
@@ -105,7 +105,7 @@ impl Reader {
     /// `simple "=" expr | when | connect`
     #[tactic(auto, unfolding(crate::specs::reading::Equations::any_equation))]
     fn any_equation(&self, tokens: &mut Tokens<'_>) -> Result<TreeEq, Halt>
-        ensures { Reads (spec.any_equation self.now.depth tokens.old) result tokens.new }
+        ensures { ReadsTokens (spec.any_equation self.now.depth tokens.old) result tokens.new }
     {
         let next = tokens.peek();
         if is_word(next, Word::KwWhen) {
@@ -120,7 +120,7 @@ impl Reader {
     /// `( simple "=" expr | when | connect ) comment ";"`
     #[tactic(auto, unfolding(crate::specs::reading::Equations::equation))]
     fn equation(&self, tokens: &mut Tokens<'_>, mut all: List<TreeEq>) -> Result<List<TreeEq>, Halt>
-        ensures { Reads (spec.equation self.now.depth all tokens.old) result tokens.new }
+        ensures { ReadsTokens (spec.equation self.now.depth all tokens.old) result tokens.new }
     {
         all.push(self.any_equation(tokens)?)?;
         comment(tokens, self.depth)?;
@@ -134,7 +134,7 @@ impl Reader {
         tokens: &mut Tokens<'_>,
         mut all: List<TreeEq>,
     ) -> Result<List<TreeEq>, Halt>
-        ensures { Reads (spec.equations self.now.depth all tokens.old) result tokens.new }
+        ensures { ReadsTokens (spec.equations self.now.depth all tokens.old) result tokens.new }
     {
         for _turn in 0..tokens.count() {
             if !begins_equation(tokens.peek()) {

@@ -4,7 +4,7 @@ ghost use Rattle.mo_lexer.specs.declared.token.Sym.TheVariants as s;
 ghost use Rattle.mo_lexer.specs.declared.token.Word.TheVariants as w;
 ghost use Rattle.mo_parser.specs.grammar.Kinds as kinds;
 ghost use Rattle.mo_parser.specs.grammar.Trees as trees;
-ghost use Rattle.mo_parser.specs.reading.Outcomes.{Reads, many};
+ghost use Rattle.mo_parser.specs.reading.Outcomes.{ReadsTokens, many};
 ghost use Rattle.mo_parser.specs.reading.Expressions as spec;
 ghost use Rattle.mo_parser.specs.reading.Nests.{Nests};
 
@@ -125,7 +125,7 @@ fn chosen(alloc: Global, at: u32, all: Branches, other: TreeExpr) -> Result<Tree
 /// `Integer | "true" | "false"`
 #[tactic(auto, unfolding(crate::specs::reading::Expressions::literal))]
 fn literal(tokens: &mut Tokens<'_>) -> Result<TreeExpr, Halt>
-    ensures { Reads (spec.literal tokens.old) result tokens.new }
+    ensures { ReadsTokens (spec.literal tokens.old) result tokens.new }
 {
     let next = tokens.peek();
     let Some(value) = literal_of(next) else {
@@ -148,7 +148,7 @@ impl<F: Fn(Global, &mut Tokens<'_>, usize) -> Result<TreeExpr, Halt>> Grammar<F>
     /// `expr`, one level deeper
     pub fn whole(&self, tokens: &mut Tokens<'_>) -> Result<TreeExpr, Halt>
         requires { Nests self.now.depth (F.pre self.now.expr) (F.post self.now.expr) }
-        ensures { Reads (spec.expr self.now.depth tokens.old) result tokens.new }
+        ensures { ReadsTokens (spec.expr self.now.depth tokens.old) result tokens.new }
     {
         (self.expr)(self.alloc, tokens, self.depth)
     }
@@ -157,7 +157,7 @@ impl<F: Fn(Global, &mut Tokens<'_>, usize) -> Result<TreeExpr, Halt>> Grammar<F>
     #[tactic(auto, unfolding(crate::specs::reading::Expressions::inner))]
     fn inner(&self, tokens: &mut Tokens<'_>) -> Result<TreeExpr, Halt>
         requires { Nests self.now.depth (F.pre self.now.expr) (F.post self.now.expr) }
-        ensures { Reads (spec.inner (spec.expr self.now.depth) tokens.old) result tokens.new }
+        ensures { ReadsTokens (spec.inner (spec.expr self.now.depth) tokens.old) result tokens.new }
     {
         if is_symbol(tokens.peek(), Sym::RoundClose) {
             return Err(Halt::Stuck);
@@ -169,7 +169,7 @@ impl<F: Fn(Global, &mut Tokens<'_>, usize) -> Result<TreeExpr, Halt>> Grammar<F>
     #[tactic(auto, unfolding(crate::specs::reading::Expressions::bracketed))]
     fn bracketed(&self, tokens: &mut Tokens<'_>) -> Result<TreeExpr, Halt>
         requires { Nests self.now.depth (F.pre self.now.expr) (F.post self.now.expr) }
-        ensures { Reads (spec.bracketed (spec.expr self.now.depth) tokens.old) result tokens.new }
+        ensures { ReadsTokens (spec.bracketed (spec.expr self.now.depth) tokens.old) result tokens.new }
     {
         let first = symbol(tokens, Sym::RoundOpen)?;
         let expr = self.inner(tokens)?;
@@ -185,7 +185,7 @@ impl<F: Fn(Global, &mut Tokens<'_>, usize) -> Result<TreeExpr, Halt>> Grammar<F>
         mut all: List<TreeExpr>,
     ) -> Result<List<TreeExpr>, Halt>
         requires { Nests self.now.depth (F.pre self.now.expr) (F.post self.now.expr) }
-        ensures { Reads (spec.further (spec.expr self.now.depth) all tokens.old) result tokens.new }
+        ensures { ReadsTokens (spec.further (spec.expr self.now.depth) all tokens.old) result tokens.new }
     {
         symbol(tokens, Sym::Comma)?;
         let expr = self.whole(tokens)?;
@@ -201,7 +201,7 @@ impl<F: Fn(Global, &mut Tokens<'_>, usize) -> Result<TreeExpr, Halt>> Grammar<F>
         mut all: List<TreeExpr>,
     ) -> Result<List<TreeExpr>, Halt>
         requires { Nests self.now.depth (F.pre self.now.expr) (F.post self.now.expr) }
-        ensures { Reads (many (kinds.is_symbol s.Comma) (spec.further (spec.expr self.now.depth)) all tokens.old) result tokens.new }
+        ensures { ReadsTokens (many (kinds.is_symbol s.Comma) (spec.further (spec.expr self.now.depth)) all tokens.old) result tokens.new }
     {
         for _turn in 0..tokens.count() {
             if !is_symbol(tokens.peek(), Sym::Comma) {
@@ -216,7 +216,7 @@ impl<F: Fn(Global, &mut Tokens<'_>, usize) -> Result<TreeExpr, Halt>> Grammar<F>
     #[tactic(auto, unfolding(crate::specs::reading::Expressions::listed))]
     fn listed(&self, tokens: &mut Tokens<'_>) -> Result<List<TreeExpr>, Halt>
         requires { Nests self.now.depth (F.pre self.now.expr) (F.post self.now.expr) }
-        ensures { Reads (spec.listed (spec.expr self.now.depth) tokens.old) result tokens.new }
+        ensures { ReadsTokens (spec.listed (spec.expr self.now.depth) tokens.old) result tokens.new }
     {
         // Most calls have one argument or two.
         let mut all = List::with_capacity(self.alloc, 2)?;
@@ -228,7 +228,7 @@ impl<F: Fn(Global, &mut Tokens<'_>, usize) -> Result<TreeExpr, Halt>> Grammar<F>
     #[tactic(auto, unfolding(crate::specs::reading::Expressions::arguments))]
     fn arguments(&self, tokens: &mut Tokens<'_>) -> Result<Arguments, Halt>
         requires { Nests self.now.depth (F.pre self.now.expr) (F.post self.now.expr) }
-        ensures { Reads (spec.arguments (spec.expr self.now.depth) tokens.old) result tokens.new }
+        ensures { ReadsTokens (spec.arguments (spec.expr self.now.depth) tokens.old) result tokens.new }
     {
         if is_symbol(tokens.peek(), Sym::RoundClose) {
             let last = symbol(tokens, Sym::RoundClose)?;
@@ -246,7 +246,7 @@ impl<F: Fn(Global, &mut Tokens<'_>, usize) -> Result<TreeExpr, Halt>> Grammar<F>
     #[tactic(auto, unfolding(crate::specs::reading::Expressions::reference))]
     fn reference(&self, tokens: &mut Tokens<'_>) -> Result<TreeExpr, Halt>
         requires { Nests self.now.depth (F.pre self.now.expr) (F.post self.now.expr) }
-        ensures { Reads (spec.reference (spec.expr self.now.depth) tokens.old) result tokens.new }
+        ensures { ReadsTokens (spec.reference (spec.expr self.now.depth) tokens.old) result tokens.new }
     {
         let named = name(self.alloc, tokens)?;
         if !is_symbol(tokens.peek(), Sym::RoundOpen) {
@@ -263,7 +263,7 @@ impl<F: Fn(Global, &mut Tokens<'_>, usize) -> Result<TreeExpr, Halt>> Grammar<F>
     #[tactic(auto, unfolding(crate::specs::reading::Expressions::primary))]
     fn primary(&self, tokens: &mut Tokens<'_>) -> Result<TreeExpr, Halt>
         requires { Nests self.now.depth (F.pre self.now.expr) (F.post self.now.expr) }
-        ensures { Reads (spec.primary (spec.expr self.now.depth) tokens.old) result tokens.new }
+        ensures { ReadsTokens (spec.primary (spec.expr self.now.depth) tokens.old) result tokens.new }
     {
         let next = tokens.peek();
         if literal_of(next).is_some() {
@@ -279,7 +279,7 @@ impl<F: Fn(Global, &mut Tokens<'_>, usize) -> Result<TreeExpr, Halt>> Grammar<F>
     #[tactic(auto, unfolding(crate::specs::reading::Expressions::factor, crate::specs::reading::Names::symbol))]
     pub fn factor(&self, tokens: &mut Tokens<'_>) -> Result<TreeExpr, Halt>
         requires { Nests self.now.depth (F.pre self.now.expr) (F.post self.now.expr) }
-        ensures { Reads (spec.factor (spec.expr self.now.depth) tokens.old) result tokens.new }
+        ensures { ReadsTokens (spec.factor (spec.expr self.now.depth) tokens.old) result tokens.new }
     {
         let base = self.primary(tokens)?;
         if !is_symbol(tokens.peek(), Sym::Power) {
@@ -294,7 +294,7 @@ impl<F: Fn(Global, &mut Tokens<'_>, usize) -> Result<TreeExpr, Halt>> Grammar<F>
     #[tactic(auto, unfolding(crate::specs::reading::Expressions::term))]
     pub fn term(&self, tokens: &mut Tokens<'_>) -> Result<TreeExpr, Halt>
         requires { Nests self.now.depth (F.pre self.now.expr) (F.post self.now.expr) }
-        ensures { Reads (spec.term (spec.expr self.now.depth) tokens.old) result tokens.new }
+        ensures { ReadsTokens (spec.term (spec.expr self.now.depth) tokens.old) result tokens.new }
     {
         let first = self.factor(tokens)?;
         self.links::<Products>(tokens, first)
@@ -304,7 +304,7 @@ impl<F: Fn(Global, &mut Tokens<'_>, usize) -> Result<TreeExpr, Halt>> Grammar<F>
     #[tactic(auto, unfolding(crate::specs::reading::Expressions::signed))]
     fn signed(&self, tokens: &mut Tokens<'_>) -> Result<TreeExpr, Halt>
         requires { Nests self.now.depth (F.pre self.now.expr) (F.post self.now.expr) }
-        ensures { Reads (spec.signed (spec.expr self.now.depth) tokens.old) result tokens.new }
+        ensures { ReadsTokens (spec.signed (spec.expr self.now.depth) tokens.old) result tokens.new }
     {
         let next = tokens.peek();
         if is_symbol(next, Sym::Plus) {
@@ -325,7 +325,7 @@ impl<F: Fn(Global, &mut Tokens<'_>, usize) -> Result<TreeExpr, Halt>> Grammar<F>
     #[tactic(auto, unfolding(crate::specs::reading::Expressions::arith))]
     fn arith(&self, tokens: &mut Tokens<'_>) -> Result<TreeExpr, Halt>
         requires { Nests self.now.depth (F.pre self.now.expr) (F.post self.now.expr) }
-        ensures { Reads (spec.arith (spec.expr self.now.depth) tokens.old) result tokens.new }
+        ensures { ReadsTokens (spec.arith (spec.expr self.now.depth) tokens.old) result tokens.new }
     {
         let first = self.signed(tokens)?;
         self.links::<Sums>(tokens, first)
@@ -335,7 +335,7 @@ impl<F: Fn(Global, &mut Tokens<'_>, usize) -> Result<TreeExpr, Halt>> Grammar<F>
     #[tactic(auto, unfolding(crate::specs::reading::Expressions::rel))]
     fn rel(&self, tokens: &mut Tokens<'_>) -> Result<TreeExpr, Halt>
         requires { Nests self.now.depth (F.pre self.now.expr) (F.post self.now.expr) }
-        ensures { Reads (spec.rel (spec.expr self.now.depth) tokens.old) result tokens.new }
+        ensures { ReadsTokens (spec.rel (spec.expr self.now.depth) tokens.old) result tokens.new }
     {
         let left = self.arith(tokens)?;
         let Some(rel) = relation_of(tokens.peek()) else {
@@ -350,7 +350,7 @@ impl<F: Fn(Global, &mut Tokens<'_>, usize) -> Result<TreeExpr, Halt>> Grammar<F>
     #[tactic(auto, unfolding(crate::specs::reading::Expressions::lit))]
     pub fn lit(&self, tokens: &mut Tokens<'_>) -> Result<TreeExpr, Halt>
         requires { Nests self.now.depth (F.pre self.now.expr) (F.post self.now.expr) }
-        ensures { Reads (spec.lit (spec.expr self.now.depth) tokens.old) result tokens.new }
+        ensures { ReadsTokens (spec.lit (spec.expr self.now.depth) tokens.old) result tokens.new }
     {
         if !is_word(tokens.peek(), Word::KwNot) {
             return self.rel(tokens);
@@ -364,7 +364,7 @@ impl<F: Fn(Global, &mut Tokens<'_>, usize) -> Result<TreeExpr, Halt>> Grammar<F>
     #[tactic(auto, unfolding(crate::specs::reading::Expressions::conj))]
     pub fn conj(&self, tokens: &mut Tokens<'_>) -> Result<TreeExpr, Halt>
         requires { Nests self.now.depth (F.pre self.now.expr) (F.post self.now.expr) }
-        ensures { Reads (spec.conj (spec.expr self.now.depth) tokens.old) result tokens.new }
+        ensures { ReadsTokens (spec.conj (spec.expr self.now.depth) tokens.old) result tokens.new }
     {
         let first = self.lit(tokens)?;
         self.links::<Conjunctions>(tokens, first)
@@ -374,7 +374,7 @@ impl<F: Fn(Global, &mut Tokens<'_>, usize) -> Result<TreeExpr, Halt>> Grammar<F>
     #[tactic(auto, unfolding(crate::specs::reading::Expressions::simple))]
     pub fn simple(&self, tokens: &mut Tokens<'_>) -> Result<TreeExpr, Halt>
         requires { Nests self.now.depth (F.pre self.now.expr) (F.post self.now.expr) }
-        ensures { Reads (spec.simple (spec.expr self.now.depth) tokens.old) result tokens.new }
+        ensures { ReadsTokens (spec.simple (spec.expr self.now.depth) tokens.old) result tokens.new }
     {
         let first = self.conj(tokens)?;
         self.links::<Disjunctions>(tokens, first)
@@ -384,7 +384,7 @@ impl<F: Fn(Global, &mut Tokens<'_>, usize) -> Result<TreeExpr, Halt>> Grammar<F>
     #[tactic(auto, unfolding(crate::specs::reading::Expressions::consequence))]
     fn consequence(&self, tokens: &mut Tokens<'_>) -> Result<TreeExpr, Halt>
         requires { Nests self.now.depth (F.pre self.now.expr) (F.post self.now.expr) }
-        ensures { Reads (spec.consequence (spec.expr self.now.depth) tokens.old) result tokens.new }
+        ensures { ReadsTokens (spec.consequence (spec.expr self.now.depth) tokens.old) result tokens.new }
     {
         word(tokens, Word::KwThen)?;
         self.whole(tokens)
@@ -394,7 +394,7 @@ impl<F: Fn(Global, &mut Tokens<'_>, usize) -> Result<TreeExpr, Halt>> Grammar<F>
     #[tactic(auto, unfolding(crate::specs::reading::Expressions::branch))]
     fn branch(&self, tokens: &mut Tokens<'_>, all: Branches) -> Result<Branches, Halt>
         requires { Nests self.now.depth (F.pre self.now.expr) (F.post self.now.expr) }
-        ensures { Reads (spec.branch (spec.expr self.now.depth) all tokens.old) result tokens.new }
+        ensures { ReadsTokens (spec.branch (spec.expr self.now.depth) all tokens.old) result tokens.new }
     {
         let condition = self.whole(tokens)?;
         let value = self.consequence(tokens);
@@ -405,7 +405,7 @@ impl<F: Fn(Global, &mut Tokens<'_>, usize) -> Result<TreeExpr, Halt>> Grammar<F>
     #[tactic(auto, unfolding(crate::specs::reading::Expressions::other_branch))]
     fn other_branch(&self, tokens: &mut Tokens<'_>, all: Branches) -> Result<Branches, Halt>
         requires { Nests self.now.depth (F.pre self.now.expr) (F.post self.now.expr) }
-        ensures { Reads (spec.other_branch (spec.expr self.now.depth) all tokens.old) result tokens.new }
+        ensures { ReadsTokens (spec.other_branch (spec.expr self.now.depth) all tokens.old) result tokens.new }
     {
         word(tokens, Word::KwElseif)?;
         self.branch(tokens, all)
@@ -415,7 +415,7 @@ impl<F: Fn(Global, &mut Tokens<'_>, usize) -> Result<TreeExpr, Halt>> Grammar<F>
     #[tactic(auto, unfolding(crate::specs::reading::Outcomes::turns))]
     fn other_branches(&self, tokens: &mut Tokens<'_>, mut all: Branches) -> Result<Branches, Halt>
         requires { Nests self.now.depth (F.pre self.now.expr) (F.post self.now.expr) }
-        ensures { Reads (many (kinds.is_word w.KwElseif) (spec.other_branch (spec.expr self.now.depth)) all tokens.old) result tokens.new }
+        ensures { ReadsTokens (many (kinds.is_word w.KwElseif) (spec.other_branch (spec.expr self.now.depth)) all tokens.old) result tokens.new }
     {
         for _turn in 0..tokens.count() {
             if !is_word(tokens.peek(), Word::KwElseif) {
@@ -430,7 +430,7 @@ impl<F: Fn(Global, &mut Tokens<'_>, usize) -> Result<TreeExpr, Halt>> Grammar<F>
     #[tactic(auto, unfolding(crate::specs::reading::Expressions::otherwise))]
     fn otherwise(&self, tokens: &mut Tokens<'_>) -> Result<TreeExpr, Halt>
         requires { Nests self.now.depth (F.pre self.now.expr) (F.post self.now.expr) }
-        ensures { Reads (spec.otherwise (spec.expr self.now.depth) tokens.old) result tokens.new }
+        ensures { ReadsTokens (spec.otherwise (spec.expr self.now.depth) tokens.old) result tokens.new }
     {
         word(tokens, Word::KwElse)?;
         self.whole(tokens)
@@ -440,7 +440,7 @@ impl<F: Fn(Global, &mut Tokens<'_>, usize) -> Result<TreeExpr, Halt>> Grammar<F>
     #[tactic(auto, unfolding(crate::specs::reading::Expressions::choice))]
     fn choice(&self, tokens: &mut Tokens<'_>) -> Result<TreeExpr, Halt>
         requires { Nests self.now.depth (F.pre self.now.expr) (F.post self.now.expr) }
-        ensures { Reads (spec.choice (spec.expr self.now.depth) tokens.old) result tokens.new }
+        ensures { ReadsTokens (spec.choice (spec.expr self.now.depth) tokens.old) result tokens.new }
     {
         let if_word = word(tokens, Word::KwIf)?;
         let none = Branches {
@@ -457,7 +457,7 @@ impl<F: Fn(Global, &mut Tokens<'_>, usize) -> Result<TreeExpr, Halt>> Grammar<F>
     #[tactic(auto, unfolding(crate::specs::reading::Expressions::level))]
     pub fn level(&self, tokens: &mut Tokens<'_>) -> Result<TreeExpr, Halt>
         requires { Nests self.now.depth (F.pre self.now.expr) (F.post self.now.expr) }
-        ensures { Reads (spec.level (spec.expr self.now.depth) tokens.old) result tokens.new }
+        ensures { ReadsTokens (spec.level (spec.expr self.now.depth) tokens.old) result tokens.new }
     {
         if is_word(tokens.peek(), Word::KwIf) {
             self.choice(tokens)
@@ -469,7 +469,7 @@ impl<F: Fn(Global, &mut Tokens<'_>, usize) -> Result<TreeExpr, Halt>> Grammar<F>
 
 /// A whole expression in which a token stands inside fewer levels than the number.
 pub fn expr(alloc: Global, tokens: &mut Tokens<'_>, depth: usize) -> Result<TreeExpr, Halt>
-    ensures { Reads (spec.expr depth tokens.old) result tokens.new }
+    ensures { ReadsTokens (spec.expr depth tokens.old) result tokens.new }
 {
     if depth == 0 {
         return Err(Halt::Deep);
@@ -484,14 +484,14 @@ pub fn expr(alloc: Global, tokens: &mut Tokens<'_>, depth: usize) -> Result<Tree
 
 /// A whole expression in which so many levels may be opened.
 pub fn whole_expr(alloc: Global, tokens: &mut Tokens<'_>, depth: usize) -> Result<TreeExpr, Halt>
-    ensures { Reads (spec.level (spec.expr depth) tokens.old) result tokens.new }
+    ensures { ReadsTokens (spec.level (spec.expr depth) tokens.old) result tokens.new }
 {
     Grammar { alloc, depth, expr }.level(tokens)
 }
 
 /// An expression other than `if`, in which so many levels may be opened.
 pub fn simple_expr(alloc: Global, tokens: &mut Tokens<'_>, depth: usize) -> Result<TreeExpr, Halt>
-    ensures { Reads (spec.simple (spec.expr depth) tokens.old) result tokens.new }
+    ensures { ReadsTokens (spec.simple (spec.expr depth) tokens.old) result tokens.new }
 {
     Grammar { alloc, depth, expr }.simple(tokens)
 }

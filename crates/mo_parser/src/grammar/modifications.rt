@@ -2,7 +2,7 @@
 ghost use Rattle.std.specs.Prelude.{◌≡◌, length};
 ghost use Rattle.mo_lexer.specs.declared.token.Sym.TheVariants as s;
 ghost use Rattle.mo_parser.specs.grammar.Kinds as kinds;
-ghost use Rattle.mo_parser.specs.reading.Outcomes.{Reads, many, optional};
+ghost use Rattle.mo_parser.specs.reading.Outcomes.{ReadsTokens, many, optional};
 ghost use Rattle.mo_parser.specs.reading.Expressions.{expr};
 ghost use Rattle.mo_parser.specs.reading.Modifications as spec;
 ghost use Rattle.mo_parser.specs.reading.Nests.{NestsArgs};
@@ -31,7 +31,7 @@ impl<F: Fn(Global, &mut Tokens<'_>, usize) -> Result<List<Arg>, Halt>> Lists<F> 
     /// Arguments one level deeper.
     fn nested(&self, tokens: &mut Tokens<'_>) -> Result<List<Arg>, Halt>
         requires { NestsArgs self.now.depth (F.pre self.now.args) (F.post self.now.args) }
-        ensures { Reads (spec.args self.now.depth tokens.old) result tokens.new }
+        ensures { ReadsTokens (spec.args self.now.depth tokens.old) result tokens.new }
     {
         (self.args)(self.alloc, tokens, self.depth)
     }
@@ -39,7 +39,7 @@ impl<F: Fn(Global, &mut Tokens<'_>, usize) -> Result<List<Arg>, Halt>> Lists<F> 
     /// `"=" expr`
     #[tactic(auto, unfolding(crate::specs::reading::Modifications::value))]
     fn value(&self, tokens: &mut Tokens<'_>) -> Result<TreeExpr, Halt>
-        ensures { Reads (spec.value (expr self.now.depth) tokens.old) result tokens.new }
+        ensures { ReadsTokens (spec.value (expr self.now.depth) tokens.old) result tokens.new }
     {
         symbol(tokens, Sym::Equals)?;
         whole_expr(self.alloc, tokens, self.depth)
@@ -47,7 +47,7 @@ impl<F: Fn(Global, &mut Tokens<'_>, usize) -> Result<List<Arg>, Halt>> Lists<F> 
 
     /// `[ "=" expr ]`
     fn some_value(&self, tokens: &mut Tokens<'_>) -> Result<Option<TreeExpr>, Halt>
-        ensures { Reads (optional (kinds.is_symbol s.Equals) (spec.value (expr self.now.depth)) tokens.old) result tokens.new }
+        ensures { ReadsTokens (optional (kinds.is_symbol s.Equals) (spec.value (expr self.now.depth)) tokens.old) result tokens.new }
     {
         if !is_symbol(tokens.peek(), Sym::Equals) {
             return Ok(None);
@@ -60,7 +60,7 @@ impl<F: Fn(Global, &mut Tokens<'_>, usize) -> Result<List<Arg>, Halt>> Lists<F> 
     #[tactic(auto, unfolding(crate::specs::reading::Modifications::in_brackets))]
     pub fn in_brackets(&self, tokens: &mut Tokens<'_>) -> Result<List<Arg>, Halt>
         requires { NestsArgs self.now.depth (F.pre self.now.args) (F.post self.now.args) }
-        ensures { Reads (spec.in_brackets (spec.args self.now.depth) tokens.old) result tokens.new }
+        ensures { ReadsTokens (spec.in_brackets (spec.args self.now.depth) tokens.old) result tokens.new }
     {
         if is_symbol(tokens.peek(), Sym::RoundClose) {
             symbol(tokens, Sym::RoundClose)?;
@@ -74,7 +74,7 @@ impl<F: Fn(Global, &mut Tokens<'_>, usize) -> Result<List<Arg>, Halt>> Lists<F> 
     #[tactic(auto, unfolding(crate::specs::reading::Modifications::modification))]
     pub fn modification(&self, tokens: &mut Tokens<'_>) -> Result<Modification, Halt>
         requires { NestsArgs self.now.depth (F.pre self.now.args) (F.post self.now.args) }
-        ensures { Reads (spec.modification (expr self.now.depth) (spec.args self.now.depth) tokens.old) result tokens.new }
+        ensures { ReadsTokens (spec.modification (expr self.now.depth) (spec.args self.now.depth) tokens.old) result tokens.new }
     {
         if !is_symbol(tokens.peek(), Sym::RoundOpen) {
             let binding = self.some_value(tokens)?;
@@ -93,7 +93,7 @@ impl<F: Fn(Global, &mut Tokens<'_>, usize) -> Result<List<Arg>, Halt>> Lists<F> 
     #[tactic(auto, unfolding(crate::specs::reading::Modifications::argument))]
     fn argument(&self, tokens: &mut Tokens<'_>) -> Result<Arg, Halt>
         requires { NestsArgs self.now.depth (F.pre self.now.args) (F.post self.now.args) }
-        ensures { Reads (spec.argument (expr self.now.depth) (spec.args self.now.depth) tokens.old) result tokens.new }
+        ensures { ReadsTokens (spec.argument (expr self.now.depth) (spec.args self.now.depth) tokens.old) result tokens.new }
     {
         let Named { path, span: _ } = name(self.alloc, tokens)?;
         let Modification { args, binding } = self.modification(tokens)?;
@@ -112,7 +112,7 @@ impl<F: Fn(Global, &mut Tokens<'_>, usize) -> Result<List<Arg>, Halt>> Lists<F> 
         mut all: List<Arg>,
     ) -> Result<List<Arg>, Halt>
         requires { NestsArgs self.now.depth (F.pre self.now.args) (F.post self.now.args) }
-        ensures { Reads (spec.further_argument (expr self.now.depth) (spec.args self.now.depth) all tokens.old) result tokens.new }
+        ensures { ReadsTokens (spec.further_argument (expr self.now.depth) (spec.args self.now.depth) all tokens.old) result tokens.new }
     {
         symbol(tokens, Sym::Comma)?;
         let argument = self.argument(tokens)?;
@@ -124,7 +124,7 @@ impl<F: Fn(Global, &mut Tokens<'_>, usize) -> Result<List<Arg>, Halt>> Lists<F> 
     #[tactic(auto, unfolding(crate::specs::reading::Outcomes::turns))]
     fn more_arguments(&self, tokens: &mut Tokens<'_>, mut all: List<Arg>) -> Result<List<Arg>, Halt>
         requires { NestsArgs self.now.depth (F.pre self.now.args) (F.post self.now.args) }
-        ensures { Reads (many (kinds.is_symbol s.Comma) (spec.further_argument (expr self.now.depth) (spec.args self.now.depth)) all tokens.old) result tokens.new }
+        ensures { ReadsTokens (many (kinds.is_symbol s.Comma) (spec.further_argument (expr self.now.depth) (spec.args self.now.depth)) all tokens.old) result tokens.new }
     {
         for _turn in 0..tokens.count() {
             if !is_symbol(tokens.peek(), Sym::Comma) {
@@ -139,7 +139,7 @@ impl<F: Fn(Global, &mut Tokens<'_>, usize) -> Result<List<Arg>, Halt>> Lists<F> 
     #[tactic(auto, unfolding(crate::specs::reading::Modifications::arguments))]
     fn arguments(&self, tokens: &mut Tokens<'_>) -> Result<List<Arg>, Halt>
         requires { NestsArgs self.now.depth (F.pre self.now.args) (F.post self.now.args) }
-        ensures { Reads (spec.arguments (expr self.now.depth) (spec.args self.now.depth) tokens.old) result tokens.new }
+        ensures { ReadsTokens (spec.arguments (expr self.now.depth) (spec.args self.now.depth) tokens.old) result tokens.new }
     {
         // Most modifications have one argument.
         let mut all = List::with_capacity(self.alloc, 1)?;
@@ -150,7 +150,7 @@ impl<F: Fn(Global, &mut Tokens<'_>, usize) -> Result<List<Arg>, Halt>> Lists<F> 
 
 /// Arguments in which a token stands inside fewer levels than the number.
 pub fn args(alloc: Global, tokens: &mut Tokens<'_>, depth: usize) -> Result<List<Arg>, Halt>
-    ensures { Reads (spec.args depth tokens.old) result tokens.new }
+    ensures { ReadsTokens (spec.args depth tokens.old) result tokens.new }
 {
     if depth == 0 {
         return Err(Halt::Deep);
@@ -169,14 +169,14 @@ pub fn modification(
     tokens: &mut Tokens<'_>,
     depth: usize,
 ) -> Result<Modification, Halt>
-    ensures { Reads (spec.modification (expr depth) (spec.args depth) tokens.old) result tokens.new }
+    ensures { ReadsTokens (spec.modification (expr depth) (spec.args depth) tokens.old) result tokens.new }
 {
     Lists { alloc, depth, args }.modification(tokens)
 }
 
 /// Arguments behind their opening bracket, with the closing one.
 pub fn in_brackets(alloc: Global, tokens: &mut Tokens<'_>, depth: usize) -> Result<List<Arg>, Halt>
-    ensures { Reads (spec.in_brackets (spec.args depth) tokens.old) result tokens.new }
+    ensures { ReadsTokens (spec.in_brackets (spec.args depth) tokens.old) result tokens.new }
 {
     Lists { alloc, depth, args }.in_brackets(tokens)
 }

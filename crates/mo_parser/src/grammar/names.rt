@@ -1,7 +1,7 @@
 //! Names and single tokens.
 ghost use Rattle.std.specs.Prelude.{◌≡◌, IfOk, IfErr};
 ghost use Rattle.mo_parser.specs.grammar.Names.{named, same_name, span_of};
-ghost use Rattle.mo_parser.specs.reading.Outcomes.{Reads};
+ghost use Rattle.mo_parser.specs.reading.Outcomes.{ReadsTokens};
 ghost use Rattle.mo_parser.specs.reading.Names as spec;
 
 use super::kinds::{is_ident, is_symbol, is_text, is_word};
@@ -22,7 +22,7 @@ pub struct Named {
 /// This symbol.
 #[tactic(auto, unfolding(crate::specs::reading::Names::symbol))]
 pub fn symbol(tokens: &mut Tokens<'_>, wanted: Sym) -> Result<Token, Halt>
-    ensures { Reads (spec.symbol wanted tokens.old) result tokens.new }
+    ensures { ReadsTokens (spec.symbol wanted tokens.old) result tokens.new }
 {
     let next = tokens.peek();
     if !is_symbol(next, wanted) {
@@ -35,7 +35,7 @@ pub fn symbol(tokens: &mut Tokens<'_>, wanted: Sym) -> Result<Token, Halt>
 /// This keyword.
 #[tactic(auto, unfolding(crate::specs::reading::Names::word))]
 pub fn word(tokens: &mut Tokens<'_>, wanted: Word) -> Result<Token, Halt>
-    ensures { Reads (spec.word wanted tokens.old) result tokens.new }
+    ensures { ReadsTokens (spec.word wanted tokens.old) result tokens.new }
 {
     let next = tokens.peek();
     if !is_word(next, wanted) {
@@ -48,7 +48,7 @@ pub fn word(tokens: &mut Tokens<'_>, wanted: Word) -> Result<Token, Halt>
 /// `Ident`
 #[tactic(auto, unfolding(crate::specs::reading::Names::ident))]
 pub fn ident(tokens: &mut Tokens<'_>) -> Result<Token, Halt>
-    ensures { Reads (spec.ident tokens.old) result tokens.new }
+    ensures { ReadsTokens (spec.ident tokens.old) result tokens.new }
 {
     let next = tokens.peek();
     if !is_ident(next) {
@@ -61,7 +61,7 @@ pub fn ident(tokens: &mut Tokens<'_>) -> Result<Token, Halt>
 /// `Text`
 #[tactic(auto, unfolding(crate::specs::reading::Names::text))]
 pub fn text(tokens: &mut Tokens<'_>) -> Result<Token, Halt>
-    ensures { Reads (spec.text tokens.old) result tokens.new }
+    ensures { ReadsTokens (spec.text tokens.old) result tokens.new }
 {
     let next = tokens.peek();
     if !is_text(next) {
@@ -106,7 +106,7 @@ fn first_part(alloc: Global, token: Token) -> Result<Named, Halt>
 /// `"." Ident`
 #[tactic(auto, unfolding(crate::specs::reading::Names::dotted))]
 fn dotted(tokens: &mut Tokens<'_>, mut found: Named) -> Result<Named, Halt>
-    ensures { Reads (spec.dotted found tokens.old) result tokens.new }
+    ensures { ReadsTokens (spec.dotted found tokens.old) result tokens.new }
 {
     symbol(tokens, Sym::Dot)?;
     let part = ident(tokens)?;
@@ -118,7 +118,7 @@ fn dotted(tokens: &mut Tokens<'_>, mut found: Named) -> Result<Named, Halt>
 /// `Ident { "." Ident }`
 #[tactic(auto, unfolding(crate::specs::reading::Names::name, crate::specs::reading::Outcomes::turns))]
 pub fn name(alloc: Global, tokens: &mut Tokens<'_>) -> Result<Named, Halt>
-    ensures { Reads (spec.name tokens.old) result tokens.new }
+    ensures { ReadsTokens (spec.name tokens.old) result tokens.new }
 {
     let first = ident(tokens)?;
     let mut found = first_part(alloc, first)?;

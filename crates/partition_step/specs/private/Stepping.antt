@@ -21,17 +21,17 @@ elapsed_at (Periodic period start) ticked moment other = Period period
 elapsed_at (Event site factor shift) ticked (At at) other = Between (unwrap_or ticked at) at
 elapsed_at (Event site factor shift) ticked Initial other = other
 
--- what is told of a class
-abbrev pub told_clock : (ℕ → Bool) → Moment → ClassKept → ClockNow → ClockNow
-told_clock ticks moment kept old = record { ticks = ticks kept.class; first = is_none kept.ticked; interval = elapsed_at kept.clock kept.ticked moment old.interval }
+-- what is shown of a class
+abbrev pub shown_clock : (ℕ → Bool) → Moment → ClassKept → ClockNow → ClockNow
+shown_clock ticks moment kept old = record { ticks = ticks kept.class; first = is_none kept.ticked; interval = elapsed_at kept.clock kept.ticked moment old.interval }
 
-abbrev pub told_from : (ℕ → Bool) → Moment → Option ClassKept → ClockNow → ClockNow
-told_from ticks moment None old = old
-told_from ticks moment (Some kept) old = told_clock ticks moment kept old
+abbrev pub shown_from : (ℕ → Bool) → Moment → Option ClassKept → ClockNow → ClockNow
+shown_from ticks moment None old = old
+shown_from ticks moment (Some kept) old = shown_clock ticks moment kept old
 
 -- the clock in each place, by the class that is kept there
-abbrev pub told_at : (ℕ → Bool) → Moment → List ClassKept → ℕ → ClockNow → ClockNow
-told_at ticks moment classes j old = told_from ticks moment (slice_get classes j) old
+abbrev pub shown_at : (ℕ → Bool) → Moment → List ClassKept → ℕ → ClockNow → ClockNow
+shown_at ticks moment classes j old = shown_from ticks moment (slice_get classes j) old
 
 -- whether the condition of a site has a value
 abbrev pub standing_by : Option Bool → Standing

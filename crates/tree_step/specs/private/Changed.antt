@@ -1,7 +1,7 @@
 -- When a use gives again what it gave at the moment before.
 use Rattle.std.specs.Prelude.{◌≡◌, ◌≢◌, ℕ, List, Option, Some, None, Ok, All}
 use Rattle.sync_values.specs.declared.value.Value.{Value}
-use Rattle.flat_model.specs.Answers.{value_in}
+use Rattle.flat_model.specs.Values.{value_in}
 use Rattle.tree_step.specs.declared.cell.Cell.{Cell}
 use Rattle.tree_step.specs.declared.cell.Standing.TheVariants.{Rests}
 use Rattle.tree_step.specs.declared.changed.Reads.{Reads}

@@ -16,7 +16,7 @@ use Rattle.tree_step.specs.declared.taking.Entry.{Entry}
 use Rattle.tree_step.specs.declared.taking.Outcome.{Outcome}
 use Rattle.tree_step.specs.declared.taking.Outcome.TheVariants as outcome
 use Rattle.tree_step.specs.Cells.{put_in}
-use Rattle.tree_step.specs.Frames.{told_elapsed, frame_views}
+use Rattle.tree_step.specs.Frames.{shown_elapsed, frame_views}
 use Rattle.tree_step.specs.Starts.{Sight}
 use Rattle.tree_step.specs.private.Lacking.{equation_lacks}
 
@@ -36,7 +36,7 @@ views_by sight cells clock = frame_views sight.places cells sight.left clock
 pub record IsSolvable (sight : Sight) (cells : List Cell) (entry : Entry) (clock : ClockNow) (equation : Equation) : Type 0 where
   pub spine : IsSpineOf entry.name equation entry.spine.left
   pub can : CanSolve entry.name equation (views_by sight cells clock)
-  pub measured : IsMeasurable (told_elapsed clock.first clock.interval)
+  pub measured : IsMeasurable (shown_elapsed clock.first clock.interval)
 
 abbrev pub CanTake : Sight → List Cell → Entry → Type 0
 CanTake sight cells entry = is_ready sight cells entry ≡ true → (clock : ClockNow) (equation : Equation) → slice_get sight.clocks entry.clock ≡ Some clock → slice_get sight.equations entry.equation ≡ Some equation

@@ -11,9 +11,9 @@ use Rattle.scope_names.specs.Written.{names_in}
 use Rattle.flat_instances.specs.Instances.{Placed}
 use Rattle.parameter_values.specs.declared.evaluate.Outcome.{Outcome}
 use Rattle.parameter_values.specs.Values.{of_kind}
-use Rattle.parameter_values.specs.private.Slots.{value_at}
-use Rattle.parameter_values.specs.private.Outcomes.{answer_of}
-use Rattle.parameter_values.specs.private.Givens.{Valued, value_with}
+use Rattle.parameter_values.specs.Slots.{value_at}
+use Rattle.parameter_values.specs.Outcomes.{answer_of}
+use Rattle.parameter_values.specs.Givens.{Valued, value_with}
 use Rattle.value_rules.specs.declared.missing.Needs.{Needs as KeptNeeds}
 use Rattle.value_rules.specs.Needs.{Needs, needed}
 

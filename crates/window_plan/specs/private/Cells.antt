@@ -1,7 +1,7 @@
 -- The cells of names that rest on no clock.
 use Rattle.std.specs.Prelude.{ℕ, List, Option, Some, None, slice_get, unwrap_or}
 use Rattle.sync_values.specs.declared.value.Value.{Value}
-use Rattle.flat_model.specs.Answers.{value_in}
+use Rattle.flat_model.specs.Values.{value_in}
 use Rattle.tree_step.specs.declared.cell.Cell.{Cell}
 use Rattle.tree_step.specs.declared.cell.Standing.TheVariants.{Ticks}
 

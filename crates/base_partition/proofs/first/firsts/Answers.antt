@@ -1,5 +1,5 @@
 use Rattle.std.proofs.Common.{rules, ◌≡◌, length, drop}
-use Rattle.base_partition.specs.working.First.{AllMarked}
+use Rattle.base_partition.specs.private.First.{AllMarked}
 use Rattle.base_partition.proofs.Least.{least_of, written_back}
 use Rattle.base_partition.proofs.first.firsts.Goals as goal
 

@@ -1,6 +1,6 @@
 use Rattle.std.proofs.Common.{rules, ◌≡◌, ◌∙◌, ◌<◌, length, slice_index_or, subst, []}
 use Rattle.std.proofs.lemmas.List.{get_or_default}
-use Rattle.base_partition.specs.working.First.{Marks, AllMarked}
+use Rattle.base_partition.specs.private.First.{Marks, AllMarked}
 use Rattle.base_partition.proofs.Least.{classes_more}
 use Rattle.base_partition.proofs.first.mark_all.Goals as goal
 

@@ -1,11 +1,11 @@
 use Rattle.std.proofs.Common.{rules, ◌≡◌, ◌+◌, ◌<◌, length, sym, subst, ◌∙◌, slice_index_or}
 use Rattle.mo_connect.specs.Chain.{AreBelow}
 use Rattle.clock_terms.specs.Said.{IsMarkedUnclocked}
-use Rattle.base_partition.specs.working.Members.{members_of}
-use Rattle.base_partition.specs.working.Numbered.{AreClassNumbers, AreTogether}
-use Rattle.base_partition.specs.working.Marks.{HasMarks}
-use Rattle.base_partition.specs.working.Pairs.{class_pairs}
-use Rattle.base_partition.specs.working.Placed.{ArePlaces}
+use Rattle.base_partition.specs.private.Members.{members_of}
+use Rattle.base_partition.specs.private.Numbered.{AreClassNumbers, AreTogether}
+use Rattle.base_partition.specs.private.Marks.{HasMarks}
+use Rattle.base_partition.specs.private.Pairs.{class_pairs}
+use Rattle.base_partition.specs.private.Placed.{ArePlaces}
 use Rattle.base_partition.proofs.ClassesFit.{joins_together, has_classes, firsts_within, marks_are, pairs_below, pairs_together, partition_below, classes_are, members_count}
 use Rattle.base_partition.proofs.group.divide.Goals as goal
 

@@ -1,5 +1,5 @@
 use Rattle.std.proofs.Common.{◌≡◌, ◌++◌, drop}
-use Rattle.base_partition.specs.working.Pairs.{class_pairs}
+use Rattle.base_partition.specs.private.Pairs.{class_pairs}
 use Rattle.base_partition.proofs.joining.joined.Given as goal
 
 abbrev pub invariant-loop-conversion : goal.invariant-loop-conversion

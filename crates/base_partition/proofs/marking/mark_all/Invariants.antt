@@ -1,5 +1,5 @@
 use Rattle.std.proofs.Common.{length, take}
-use Rattle.base_partition.specs.working.Marks.{HasMarks}
+use Rattle.base_partition.specs.private.Marks.{HasMarks}
 use Rattle.base_partition.proofs.marking.mark_all.Given as goal
 
 abbrev pub invariant-loop-x : goal.invariant-loop-x

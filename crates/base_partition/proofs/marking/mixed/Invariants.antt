@@ -1,5 +1,5 @@
 use Rattle.std.proofs.Common.{ℕ, ◌<◌}
-use Rattle.base_partition.specs.working.Marks.{IsBoth}
+use Rattle.base_partition.specs.private.Marks.{IsBoth}
 use Rattle.base_partition.proofs.marking.mixed.Given as goal
 
 abbrev pub invariant-loop-c : goal.invariant-loop-c

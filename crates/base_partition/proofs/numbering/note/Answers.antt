@@ -1,5 +1,5 @@
 use Rattle.std.proofs.Common.{rules, ◌≡◌, ◌+◌, length, OnOk, [], ◌∷◌, ◌++◌, true, false, refl, sym, subst, ◌∙◌, slice_index_or}
-use Rattle.base_partition.specs.working.Numbered.{is_member, first_of, AreNumbers}
+use Rattle.base_partition.specs.private.Numbered.{is_member, first_of, AreNumbers}
 use Rattle.base_partition.proofs.Places.{kept, begun, found_first, on_ok}
 use Rattle.base_partition.proofs.numbering.note.Goals as goal
 

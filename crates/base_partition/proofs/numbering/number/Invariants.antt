@@ -1,4 +1,4 @@
-use Rattle.base_partition.specs.working.Numbered.{AreNumbers}
+use Rattle.base_partition.specs.private.Numbered.{AreNumbers}
 use Rattle.base_partition.proofs.numbering.number.Given as goal
 
 abbrev pub invariant-loop-i : goal.invariant-loop-i

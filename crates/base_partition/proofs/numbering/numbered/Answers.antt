@@ -1,6 +1,6 @@
 use Rattle.std.proofs.Common.{rules, ◌≡◌, ℕ, ◌<◌, length}
-use Rattle.base_partition.specs.working.First.{IsFirst}
-use Rattle.base_partition.specs.working.Numbered.{first_of, AreNumbers}
+use Rattle.base_partition.specs.private.First.{IsFirst}
+use Rattle.base_partition.specs.private.Numbered.{first_of, AreNumbers}
 use Rattle.base_partition.proofs.ClassNumbers.{firsts_fit, class_numbers}
 use Rattle.base_partition.proofs.numbering.numbered.Goals as goal
 

@@ -1,7 +1,7 @@
 use Rattle.std.proofs.Common.{rules, ◌≡◌, ℕ, ◌<◌, length, Some, None, slice_get, subst}
-use Rattle.base_partition.specs.working.Grouped.{IsGrouped}
-use Rattle.base_partition.specs.working.Marks.{IsBoth}
-use Rattle.base_partition.specs.working.Sources.{IsFirstMixed}
+use Rattle.base_partition.specs.private.Grouped.{IsGrouped}
+use Rattle.base_partition.specs.private.Marks.{IsBoth}
+use Rattle.base_partition.specs.private.Sources.{IsFirstMixed}
 use Rattle.base_partition.proofs.Answering.{none_mixed, mixed_at, apart, base_mixed_at}
 use Rattle.base_partition.proofs.partition.classes.Goals as goal
 

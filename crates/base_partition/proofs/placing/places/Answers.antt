@@ -1,7 +1,7 @@
 use Rattle.std.proofs.Common.{rules, ◌≡◌, ◌<◌, ◌++◌, [], ◌∷◌, length, sym, subst, get_or, take}
 use Rattle.std.proofs.lemmas.List.{take_more}
 use Rattle.clock_terms.specs.Classing.{IsPlaceOf}
-use Rattle.base_partition.specs.working.Placed.{ArePlaces}
+use Rattle.base_partition.specs.private.Placed.{ArePlaces}
 use Rattle.base_partition.proofs.FirstPlaces.{places_push}
 use Rattle.base_partition.proofs.placing.places.Goals as goal
 

@@ -1,5 +1,5 @@
 use Rattle.std.proofs.Common.{take}
-use Rattle.base_partition.specs.working.Placed.{ArePlaces}
+use Rattle.base_partition.specs.private.Placed.{ArePlaces}
 use Rattle.base_partition.proofs.placing.places.Given as goal
 
 abbrev pub invariant-loop-first : goal.invariant-loop-first

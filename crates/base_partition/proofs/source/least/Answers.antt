@@ -1,6 +1,6 @@
 use Rattle.std.proofs.Common.{rules, ◌≡◌, ◌<◌, ◌++◌, [], ◌∷◌, length, refl, sym, subst, get_or, take}
 use Rattle.std.proofs.lemmas.List.{take_more}
-use Rattle.base_partition.specs.working.Sources.{no_sources, mixed_in, lesser_of, IsLeastOf}
+use Rattle.base_partition.specs.private.Sources.{no_sources, mixed_in, lesser_of, IsLeastOf}
 use Rattle.base_partition.proofs.LeastSecond.{least_push}
 use Rattle.base_partition.proofs.source.least.Goals as goal
 

@@ -1,7 +1,7 @@
 use Rattle.std.proofs.Common.{rules, ◌≡◌, ◌<◌, ◌++◌, [], ◌∷◌, length, true, sym, subst, slice_set, slice_index_or}
 use Rattle.clock_terms.specs.Classing.{class_in, is_clocked, partition_in}
 use Rattle.base_partition.specs.Classified.{is_source, is_event}
-use Rattle.base_partition.specs.working.Sources.{no_sources, with_source, AreKept}
+use Rattle.base_partition.specs.private.Sources.{no_sources, with_source, AreKept}
 use Rattle.base_partition.proofs.Summing.{in_kept}
 use Rattle.base_partition.proofs.source.note.Goals as goal
 

@@ -1,5 +1,5 @@
 use Rattle.std.proofs.Common.{◌≡◌, length, take}
-use Rattle.base_partition.specs.working.Sources.{AreKept}
+use Rattle.base_partition.specs.private.Sources.{AreKept}
 use Rattle.base_partition.proofs.source.note_all.Given as goal
 
 abbrev pub invariant-loop-constructor : goal.invariant-loop-constructor

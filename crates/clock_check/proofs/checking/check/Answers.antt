@@ -1,9 +1,9 @@
 use Rattle.std.proofs.Common.{rules, arith, ◌≡◌, ◌^◌, sym, ap, subst, length, All}
 use Rattle.clock_terms.specs.Position.{IsFine}
 use Rattle.clock_spread.specs.Least.{IsLeastOf}
-use Rattle.clock_check.specs.Numbering.{AreNumbers}
-use Rattle.clock_check.specs.Holding.{IsInClass}
-use Rattle.clock_check.specs.Made.{IsMade}
+use Rattle.clock_check.specs.private.Numbering.{AreNumbers}
+use Rattle.clock_check.specs.private.Holding.{IsInClass}
+use Rattle.clock_check.specs.private.Made.{IsMade}
 use Rattle.clock_check.specs.Checking.{BreaksRule, AreFactorsWhole, HoldsInCondition}
 use Rattle.clock_check.proofs.Whole.{is_clocking_of, grids_fine}
 use Rattle.clock_check.proofs.Answering.{breaks_checks, held_at}

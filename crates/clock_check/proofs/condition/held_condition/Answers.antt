@@ -1,6 +1,6 @@
 use Rattle.std.proofs.Common.{rules, ◌≡◌, ◌↔◌, ◌<◌, ◌+◌, ℕ, true, false, sym, subst, length, take, slice_index_or}
 use Rattle.clock_spread.specs.Least.{IsLeastOf}
-use Rattle.clock_check.specs.Holding.{HasHold, IsHoldingAt}
+use Rattle.clock_check.specs.private.Holding.{HasHold, IsHoldingAt}
 use Rattle.clock_check.proofs.Marks.{holding_more}
 use Rattle.clock_check.proofs.condition.held_condition.Goals as goal
 

@@ -1,6 +1,6 @@
 use Rattle.std.proofs.Common.{rules, ◌≡◌, ◌∙◌, ◌↔◌, ◌++◌, ℕ, true, false, sym, ap, subst, length, take, drop, slice_index_or}
 use Rattle.std.proofs.Math.Seq.{take-append_seam}
-use Rattle.clock_check.specs.Holding.{HasHold}
+use Rattle.clock_check.specs.private.Holding.{HasHold}
 use Rattle.clock_check.proofs.Marks.{AreMarked, marked_from_none}
 use Rattle.clock_check.proofs.condition.holding.Goals as goal
 

@@ -1,5 +1,5 @@
 use Rattle.std.proofs.Common.{◌≡◌, ◌↔◌, ◌⊎◌, ℕ, true, false, length, take, slice_index_or}
-use Rattle.clock_check.specs.Holding.{HasHold}
+use Rattle.clock_check.specs.private.Holding.{HasHold}
 use Rattle.clock_check.proofs.condition.mark.Given as goal
 
 abbrev pub invariant-loop-node : goal.invariant-loop-node

@@ -1,6 +1,6 @@
 use Rattle.std.proofs.Common.{Bool, List, take}
 use Rattle.clock_spread.specs.Least.{IsLeastOf, IsNumberIn}
-use Rattle.clock_check.specs.Numbering.{AreNumbers}
+use Rattle.clock_check.specs.private.Numbering.{AreNumbers}
 use Rattle.clock_check.specs.Inferring.{FailsInferred}
 use Rattle.clock_check.proofs.factor.missing_factor.Given as goal
 

@@ -1,5 +1,5 @@
 use Rattle.std.proofs.Common.{rules, arith, ◌∙◌, ◌≤◌, refl, sym, length}
-use Rattle.clock_check.specs.Flaws.{IsFlawAt}
+use Rattle.clock_check.specs.private.Flaws.{IsFlawAt}
 use Rattle.clock_check.proofs.Counting.{flaw_more, flaw_none}
 use Rattle.clock_check.proofs.flaw.first_with.Goals as goal
 

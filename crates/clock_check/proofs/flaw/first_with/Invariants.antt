@@ -1,6 +1,6 @@
 use Rattle.std.proofs.Common.{ℕ, ◌<◌, Bool, List}
-use Rattle.clock_check.specs.Numbering.{AreNumbers}
-use Rattle.clock_check.specs.Flaws.{IsFlawAt}
+use Rattle.clock_check.specs.private.Numbering.{AreNumbers}
+use Rattle.clock_check.specs.private.Flaws.{IsFlawAt}
 use Rattle.clock_check.proofs.flaw.first_with.Given as goal
 
 abbrev pub invariant-loop-class : goal.invariant-loop-class

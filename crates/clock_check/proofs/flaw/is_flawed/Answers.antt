@@ -1,5 +1,5 @@
 use Rattle.std.proofs.Common.{◌∙◌, sym, subst}
-use Rattle.clock_check.specs.Flaws.{HasFlaw}
+use Rattle.clock_check.specs.private.Flaws.{HasFlaw}
 use Rattle.clock_check.proofs.Counting.{same_grid}
 use Rattle.clock_check.proofs.flaw.is_flawed.Goals as goal
 

@@ -1,6 +1,6 @@
 use Rattle.std.proofs.Common.{◌≡◌, ℕ, ◌<◌, None, take, vec_len, slice_index_or}
 use Rattle.std.specs.List.{count_by}
-use Rattle.clock_check.specs.Numbering.{number_at}
+use Rattle.clock_check.specs.private.Numbering.{number_at}
 use Rattle.clock_check.proofs.numbers.numbers_of.Given as goal
 
 abbrev pub invariant-loop-is_clocked : goal.invariant-loop-is_clocked

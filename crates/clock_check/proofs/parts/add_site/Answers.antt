@@ -1,7 +1,7 @@
 use Rattle.std.proofs.Common.{rules, ◌≡◌, ◌∙◌, ◌++◌, ◌∷◌, [], refl, sym, ap, subst}
 use Rattle.clock_terms.specs.Source.{kind_of}
 use Rattle.clock_terms.proofs.ClockKinds.{kind_of-Name, kind_of-Inferred, kind_of-Rational, kind_of-Event, kind_of-Convert}
-use Rattle.clock_check.specs.Making.{adds_by}
+use Rattle.clock_check.specs.private.Making.{adds_by}
 use Rattle.clock_check.proofs.parts.add_site.Goals as goal
 
 pub returns-in_ok-push-in-Event : goal.returns-in_ok-push-in-Event

@@ -1,5 +1,5 @@
 use Rattle.std.proofs.Common.{◌≡◌, ◌+◌, ◌++◌, drop}
-use Rattle.clock_check.specs.Making.{node_numbers}
+use Rattle.clock_check.specs.private.Making.{node_numbers}
 use Rattle.clock_check.proofs.parts.of_equation.Given as goal
 
 abbrev pub invariant-loop-j : goal.invariant-loop-j

@@ -1,4 +1,4 @@
-use Rattle.clock_check.specs.Making.{AreNumbersOfNames}
+use Rattle.clock_check.specs.private.Making.{AreNumbersOfNames}
 use Rattle.clock_check.proofs.parts.of_name.Given as goal
 
 abbrev pub invariant-loop-x : goal.invariant-loop-x

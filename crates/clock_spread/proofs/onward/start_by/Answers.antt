@@ -1,5 +1,5 @@
 use Rattle.std.proofs.Common.{rules, refl, ◌^◌, IsNone}
-use Rattle.clock_spread.specs.Parts.{moved_start}
+use Rattle.clock_spread.specs.private.MovedStarts.{moved_start}
 use Rattle.clock_spread.proofs.Limits.{not_past, past, moved_den_pos, moved_at, moved_sign, moved_past}
 use Rattle.clock_spread.proofs.onward.start_by.Goals as goal
 

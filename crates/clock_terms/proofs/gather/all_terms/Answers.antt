@@ -3,7 +3,7 @@ use Rattle.std.proofs.lemmas.List.{take_more}
 use Rattle.clock_terms.specs.Nodes.{nodes_of_equation, nodes_from}
 use Rattle.flat_model.specs.Models.{clause_of}
 use Rattle.clock_terms.specs.Gathered.{with_nodes, IsClauseBelow}
-use Rattle.clock_terms.specs.gathering.Leads.{clock_at, AreLeads, HaveBegun}
+use Rattle.clock_terms.specs.private.Leads.{clock_at, AreLeads, HaveBegun}
 use Rattle.clock_terms.proofs.Leading.{equation_more, same_clock, length_taken}
 use Rattle.clock_terms.proofs.gather.all_terms.Goals as goal
 

@@ -1,7 +1,7 @@
 use Rattle.std.proofs.Common.{◌≡◌, take, drop, length, []}
 use Rattle.clock_terms.specs.Nodes.{nodes_from}
 use Rattle.clock_terms.specs.Gathered.{with_nodes}
-use Rattle.clock_terms.specs.gathering.Leads.{AreLeads, HaveBegun}
+use Rattle.clock_terms.specs.private.Leads.{AreLeads, HaveBegun}
 use Rattle.clock_terms.proofs.gather.all_terms.Given as goal
 
 abbrev pub invariant-loop-i : goal.invariant-loop-i

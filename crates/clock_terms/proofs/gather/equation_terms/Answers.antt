@@ -4,7 +4,7 @@ use Rattle.clock_terms.specs.Mentions.{clock_mentions, clock_cuts}
 use Rattle.clock_terms.specs.Nodes.{side_mentions, side_cuts}
 use Rattle.flat_model.specs.Models.{clause_of}
 use Rattle.clock_terms.specs.Gathered.{with_mentions, with_cuts, with_place, next_number}
-use Rattle.clock_terms.specs.gathering.Leads.{clock_at, AreLeads}
+use Rattle.clock_terms.specs.private.Leads.{clock_at, AreLeads}
 use Rattle.clock_terms.proofs.Leading.{of_equation, lead_leads, equation_leads, on_ok}
 use Rattle.clock_terms.proofs.gather.equation_terms.Goals as goal
 

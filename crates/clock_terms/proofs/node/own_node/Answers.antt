@@ -1,6 +1,6 @@
 use Rattle.std.proofs.Common.{rules, ◌≡◌, length, None, [], ◌∷◌, ◌++◌}
 use Rattle.clock_terms.specs.Gathered.{with_clause, next_number}
-use Rattle.clock_terms.specs.gathering.Leads.{leads_with}
+use Rattle.clock_terms.specs.private.Leads.{leads_with}
 use Rattle.clock_terms.proofs.Leading.{own_leads}
 use Rattle.clock_terms.proofs.node.own_node.Goals as goal
 

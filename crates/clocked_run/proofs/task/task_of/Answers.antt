@@ -50,6 +50,12 @@ planned-requires-clause-stop g c = stop_is (map string_bytes c.args.words.now) (
 pub planned-requires-clause-workers : goal.planned-requires-clause-workers
 planned-requires-clause-workers g c = workers_are (map string_bytes c.args.words.now) (choice_of c.in_ok-command.command) c.in_ok-command.ensures.made
 
+pub planned-requires-in-Stress-clause-stop : goal.planned-requires-in-Stress-clause-stop
+planned-requires-in-Stress-clause-stop g c = stop_is (map string_bytes c.args.words.now) (choice_of c.in_ok-command.command) c.in_ok-command.ensures.made
+
+pub planned-requires-in-Stress-clause-workers : goal.planned-requires-in-Stress-clause-workers
+planned-requires-in-Stress-clause-workers g c = workers_are (map string_bytes c.args.words.now) (choice_of c.in_ok-command.command) c.in_ok-command.ensures.made
+
 pub returns-in_err-run-in-Run-clause-ended : goal.returns-in_err-run-in-Run-clause-ended
 returns-in_err-run-in-Run-clause-ended g c = λ o step.
     let words = map string_bytes c.args.words.now in

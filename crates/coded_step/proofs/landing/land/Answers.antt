@@ -1,5 +1,5 @@
 use Rattle.std.proofs.Common.{rules, arith, ap, ◌∙◌, get_or, length, ◌≤◌}
-use Rattle.coded_step.specs.Landing.{with_value, value_of}
+use Rattle.coded_step.specs.private.Landing.{with_value, value_of}
 use Rattle.coded_step.proofs.Lists.{written_next, written_last}
 use Rattle.coded_step.proofs.landing.land.Goals as goal
 

@@ -1,4 +1,4 @@
-use Rattle.coded_step.specs.Landing.{with_value, value_of}
+use Rattle.coded_step.specs.private.Landing.{with_value, value_of}
 use Rattle.coded_step.proofs.Lists.{WrittenTo}
 use Rattle.coded_step.proofs.landing.land.Given as goal
 

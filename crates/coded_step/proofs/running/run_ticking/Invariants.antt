@@ -1,6 +1,6 @@
 use Rattle.std.proofs.Common.{length, ◌-◌}
 use Rattle.part_stretches.proofs.Looping.{Runs}
-use Rattle.coded_step.specs.Landing.{ticking_of}
+use Rattle.coded_step.specs.private.Landing.{ticking_of}
 use Rattle.coded_step.proofs.running.run_ticking.Given as goal
 
 abbrev pub invariant-loop-i : goal.invariant-loop-i

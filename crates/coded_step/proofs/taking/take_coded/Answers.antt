@@ -4,7 +4,7 @@ use Rattle.std.proofs.lemmas.List.{with_items_is}
 use Rattle.part_stretches.specs.Running.{RunsFrom}
 use Rattle.tree_step.specs.Starts.{sight_of}
 use Rattle.part_words.specs.Words.{AreFilled}
-use Rattle.coded_step.specs.Landing.{ticking_of, AreLanded}
+use Rattle.coded_step.specs.private.Landing.{ticking_of, AreLanded}
 use Rattle.coded_step.proofs.Taken.{taken_by_code}
 use Rattle.coded_step.proofs.taking.take_coded.Goals as goal
 

@@ -1,12 +1,13 @@
 use Rattle.std.proofs.Common.{sym, subst}
 use Rattle.command_words.specs.Choice.{choice_of}
 use Rattle.flat_model.specs.declared.place.Place.TheVariants.{Model}
-use Rattle.command_answer.specs.Actions.{source_in, model_of, model_limit}
+use Rattle.command_answer.specs.Actions.{source_in, model_of}
 use Rattle.command_answer.specs.Calls.{reads_in}
 use Rattle.command_stages.specs.Ends.{Halts, IsPrintable, of_names}
 use Rattle.command_stages.specs.Segments.{file_of}
 use Rattle.command_stages.proofs.Halting.{passed}
 use Rattle.command_stages.proofs.Models.{model_unread, model_unspelled, model_unflat, model_untyped, model_makes}
+use Rattle.mo_lexer.specs.Tokens.{model_limit}
 use Rattle.command_model.proofs.Short.{names_short}
 use Rattle.command_model.proofs.Spelled.{is_tree}
 use Rattle.command_model.proofs.model.model_of.Goals as goal

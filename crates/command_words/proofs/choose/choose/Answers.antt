@@ -1,7 +1,7 @@
 use Rattle.std.proofs.Common.{ap, refl, subst, sym, ◌∙◌}
 use Rattle.command_words.specs.Choice.{IsStop, IsWorkers}
 use Rattle.command_words.specs.Choice.IsMisfit.{no_stop, no_workers, no_members}
-use Rattle.command_words.specs.Given.{word_of}
+use Rattle.command_words.specs.private.Given.{word_of}
 use Rattle.command_words.proofs.Modes.{mode_named}
 use Rattle.command_words.proofs.choose.choose.Goals as goal
 

@@ -2,7 +2,7 @@ use Rattle.std.proofs.Common.{◌≡◌, ap, sym, subst, ◌∙◌, [], ◌∷�
 use Rattle.flat_model.specs.declared.equation.Equation.TheVariants.{Valued}
 use Rattle.flat_model.specs.Operators.{Is, Fails}
 use Rattle.flat_model.specs.Meaning.{value_of, seen_by}
-use Rattle.flat_model.specs.Parts.{parts_beside}
+use Rattle.flat_model.specs.Ways.{parts_beside}
 use Rattle.eq_orient.specs.Spine.{IsSpineOf}
 use Rattle.eq_orient.specs.Solving.{ArePresent, AreWellMade, Solves}
 use Rattle.eq_orient.specs.private.Undoing.{AreValues, ChecksAll, beside}

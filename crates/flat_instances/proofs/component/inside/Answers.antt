@@ -1,6 +1,6 @@
 use Rattle.std.proofs.Common.{rules, ◌≡◌, ◌∙◌, ap, sym, subst, ◌++◌, ◌∷◌, [], is_ok, true}
 use Rattle.class_scopes.specs.Spelled.{spelled}
-use Rattle.flat_instances.specs.private.Force.{GiveOutermost, stepped}
+use Rattle.flat_instances.specs.Force.{GiveOutermost, stepped}
 use Rattle.flat_instances.proofs.Forces.{inside_force}
 use Rattle.flat_instances.proofs.component.inside.Goals as goal
 

@@ -1,5 +1,5 @@
 use Rattle.std.proofs.Common.{◌∙◌, ap, ◌++◌, ◌∷◌, []}
-use Rattle.flat_instances.specs.private.Force.{listed}
+use Rattle.flat_instances.specs.Force.{listed}
 use Rattle.flat_instances.proofs.Forces.{entered}
 use Rattle.flat_instances.proofs.component.modifiers_of.Goals as goal
 

@@ -1,6 +1,6 @@
 use Rattle.std.proofs.Common.{◌≡◌, ◌∙◌, ap, refl, ◌++◌, ◌∷◌, [], map, codes}
 use Rattle.class_scopes.specs.Spelled.{spelled}
-use Rattle.flat_instances.specs.private.Force.{first_given, stepped}
+use Rattle.flat_instances.specs.Force.{first_given, stepped}
 use Rattle.flat_instances.specs.Instances.{outermost}
 use Rattle.flat_instances.specs.declared.item.Variable.{Variable}
 use Rattle.flat_instances.proofs.Walking.{variable_seen}

@@ -1,6 +1,6 @@
 use Rattle.std.proofs.Common.{rules, arith, ◌≡◌, ap, ap₂, ◌∙◌, sym, suc, add-one, drop, Some, true, false}
 use Rattle.std.proofs.lemmas.Bool.{ltb-true}
-use Rattle.flat_model.specs.Answers.{stated, failed, truth_in, views_of}
+use Rattle.flat_model.specs.Values.{stated, failed, truth_in, views_of}
 use Rattle.flat_model.specs.Operators.{chained, negated, inverted, relation, chosen}
 use Rattle.flat_model.specs.Meaning.{value_of, answers}
 use Rattle.flat_model.proofs.Values.{value_of-Relation, value_of-Neg, value_of-Not}

@@ -1,5 +1,5 @@
 use Rattle.std.proofs.Common.{◌≡◌, drop}
-use Rattle.flat_model.specs.Answers.{stated, views_of}
+use Rattle.flat_model.specs.Values.{stated, views_of}
 use Rattle.flat_model.specs.Operators.{chain, chained, chosen}
 use Rattle.flat_model.specs.Meaning.{value_of, answers}
 use Rattle.flat_model.proofs.total.+answer.Given as goal

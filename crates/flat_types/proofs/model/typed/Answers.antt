@@ -1,5 +1,5 @@
 use Rattle.std.proofs.Common.{◌∙◌, subst, Ok}
-use Rattle.flat_types.specs.Checked.{AreChecked}
+use Rattle.flat_types.specs.private.Checked.{AreChecked}
 use Rattle.flat_types.proofs.Answering.{ended, known_right, typed_so}
 use Rattle.flat_types.proofs.model.typed.Goals as goal
 

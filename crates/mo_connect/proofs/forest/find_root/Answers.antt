@@ -1,7 +1,7 @@
 use Rattle.std.proofs.Common.{◌≢◌, arith, ◌∙◌, get_or}
 use Rattle.std.proofs.lemmas.List.{length-set}
 use Rattle.mo_connect.specs.Chain.{stay}
-use Rattle.mo_connect.specs.Links.{parent_of}
+use Rattle.mo_connect.specs.private.Links.{parent_of}
 use Rattle.mo_connect.proofs.Links.{kept_all, reads, climb_keeps, climb_links}
 use Rattle.mo_connect.proofs.forest.find_root.Goals as goal
 

@@ -1,5 +1,5 @@
 use Rattle.std.proofs.Common.{◌<◌, ◌≤◌, length}
-use Rattle.mo_connect.specs.Links.{AreLinked, KeepsLinks}
+use Rattle.mo_connect.specs.private.Links.{AreLinked, KeepsLinks}
 use Rattle.mo_connect.proofs.forest.find_root.Given as goal
 
 abbrev pub invariant-loop-at : goal.invariant-loop-at

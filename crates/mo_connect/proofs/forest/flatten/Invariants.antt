@@ -1,5 +1,5 @@
 use Rattle.std.proofs.Common.{ℕ, ◌<◌}
-use Rattle.mo_connect.specs.Links.{parent_of, IsRoot, KeepsLinks}
+use Rattle.mo_connect.specs.private.Links.{parent_of, IsRoot, KeepsLinks}
 use Rattle.mo_connect.proofs.forest.flatten.Given as goal
 
 abbrev pub invariant-loop-x : goal.invariant-loop-x

@@ -1,7 +1,7 @@
 use Rattle.std.proofs.Common.{rules, arith, add-one, take}
 use Rattle.std.proofs.Math.Seq.{take-suc}
 use Rattle.std.proofs.lemmas.List.{with_items_is}
-use Rattle.mo_connect.specs.Links.{LinksJoined}
+use Rattle.mo_connect.specs.private.Links.{LinksJoined}
 use Rattle.mo_connect.proofs.Links.{roots_links}
 use Rattle.mo_connect.proofs.forest.joined.Goals as goal
 

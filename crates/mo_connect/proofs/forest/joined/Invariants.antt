@@ -1,5 +1,5 @@
 use Rattle.std.proofs.Common.{◌≡◌, take, vec_len}
-use Rattle.mo_connect.specs.Links.{Falls, LinksJoined}
+use Rattle.mo_connect.specs.private.Links.{Falls, LinksJoined}
 use Rattle.mo_connect.proofs.forest.joined.Given as goal
 
 abbrev pub invariant-loop-pair : goal.invariant-loop-pair

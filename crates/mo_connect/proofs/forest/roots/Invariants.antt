@@ -1,5 +1,5 @@
 use Rattle.std.proofs.Common.{◌≡◌, ℕ, vec_len}
-use Rattle.mo_connect.specs.Links.{IsRoot}
+use Rattle.mo_connect.specs.private.Links.{IsRoot}
 use Rattle.mo_connect.proofs.forest.roots.Given as goal
 
 abbrev pub invariant-loop-x : goal.invariant-loop-x

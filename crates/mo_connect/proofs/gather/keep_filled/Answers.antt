@@ -1,6 +1,6 @@
 use Rattle.std.proofs.Common.{rules}
 use Rattle.std.proofs.lemmas.List.Elements.{filter_from_retain}
-use Rattle.mo_connect.specs.Gathered.{is_filled}
+use Rattle.mo_connect.specs.private.Gathered.{is_filled}
 use Rattle.mo_connect.proofs.gather.keep_filled.Goals as goal
 
 pub returns : goal.returns

@@ -1,5 +1,5 @@
 use Rattle.std.proofs.Common.{rules, ◌≡◌, [], ◌∷◌, ◌++◌, length, get_or, arith, ap, sym, ◌∙◌}
-use Rattle.mo_connect.specs.Links.{parent_of}
+use Rattle.mo_connect.specs.private.Links.{parent_of}
 use Rattle.mo_connect.proofs.Links.{parent_at}
 use Rattle.mo_connect.proofs.Members.{root_added, member_added}
 use Rattle.mo_connect.proofs.gather.members.Goals as goal

@@ -1,5 +1,5 @@
 use Rattle.std.proofs.Common.{◌≡◌, ℕ, [], get_or, vec_len}
-use Rattle.mo_connect.specs.Gathered.{HasMembers}
+use Rattle.mo_connect.specs.private.Gathered.{HasMembers}
 use Rattle.mo_connect.proofs.gather.members.Given as goal
 
 abbrev pub invariant-loop-x : goal.invariant-loop-x

@@ -3,7 +3,7 @@ use Rattle.class_scopes.specs.Tables.{Numbered}
 use Rattle.flat_answer.specs.Answers.{Answers}
 use Rattle.flat_instances.specs.Instances.{variables}
 use Rattle.flat_instances.specs.Kept.{seen}
-use Rattle.parameter_values.specs.private.Slots as slots
+use Rattle.parameter_values.specs.Slots as slots
 use Rattle.value_rules.specs.Faults as faults
 use Rattle.mo_flatten.proofs.Valued.{has_few_names, has_few_clauses, answers_fault, answers_model}
 use Rattle.mo_flatten.proofs.answer.valued.Goals as goal

@@ -1,6 +1,6 @@
 use Rattle.std.proofs.Common.{◌≡◌, map, flat_map, take}
 use Rattle.value_rules.specs.Needs.{needed}
-use Rattle.model_values.specs.private.Parts.{needs_in}
+use Rattle.model_values.specs.private.ItemNeeds.{needs_in}
 use Rattle.model_values.proofs.model.needs.Given as goal
 
 abbrev pub invariant-loop-item : goal.invariant-loop-item

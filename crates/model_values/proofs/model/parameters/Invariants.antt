@@ -1,6 +1,6 @@
 use Rattle.std.proofs.Common.{◌≡◌, map, flat_map, take}
-use Rattle.parameter_values.specs.private.Givens.{valued}
-use Rattle.model_values.specs.private.Parts.{parameters_in}
+use Rattle.parameter_values.specs.Givens.{valued}
+use Rattle.model_values.specs.private.ItemNeeds.{parameters_in}
 use Rattle.model_values.proofs.model.parameters.Given as goal
 
 abbrev pub invariant-loop-item : goal.invariant-loop-item

@@ -1,5 +1,5 @@
 use Rattle.std.proofs.Common.{◌≡◌, flat_map, take}
-use Rattle.model_values.specs.private.Parts.{names_in}
+use Rattle.model_values.specs.private.ItemNeeds.{names_in}
 use Rattle.model_values.proofs.table.parameter_names.Given as goal
 
 abbrev pub invariant-loop-item : goal.invariant-loop-item

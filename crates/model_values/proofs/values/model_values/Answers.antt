@@ -1,7 +1,7 @@
 use Rattle.std.proofs.Common.{◌∙◌, ap, sym, subst, map}
 use Rattle.parameter_values.specs.Values.{AreValues}
-use Rattle.parameter_values.specs.private.Givens.{valued}
-use Rattle.parameter_values.specs.private.Slots.{seen}
+use Rattle.parameter_values.specs.Givens.{valued}
+use Rattle.parameter_values.specs.Slots.{seen}
 use Rattle.flat_instances.specs.Instances.{variables}
 use Rattle.flat_instances.specs.Kept as kept
 use Rattle.value_rules.specs.Needs.{needed}

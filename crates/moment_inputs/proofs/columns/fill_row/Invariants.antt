@@ -1,5 +1,5 @@
 use Rattle.std.proofs.Common.{◌≡◌, length, map, take}
-use Rattle.flat_model.specs.Answers.{value_in}
+use Rattle.flat_model.specs.Values.{value_in}
 use Rattle.moment_inputs.proofs.columns.fill_row.Given as goal
 
 abbrev pub invariant-loop-place : goal.invariant-loop-place

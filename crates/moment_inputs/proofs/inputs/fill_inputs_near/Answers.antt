@@ -1,6 +1,6 @@
 use Rattle.std.proofs.Common.{◌≡◌, ◌∙◌, ◌==◌, ap, position}
 use Rattle.flat_model.specs.Moments.{cell_of, row_of}
-use Rattle.moment_inputs.proofs.Setting.{hold_inputs}
+use Rattle.moment_inputs.proofs.SetInputs.{hold_inputs}
 use Rattle.moment_inputs.proofs.inputs.fill_inputs_near.Goals as goal
 
 pub returns-clause-inputs : goal.returns-clause-inputs

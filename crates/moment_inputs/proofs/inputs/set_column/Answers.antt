@@ -2,7 +2,7 @@ use Rattle.std.proofs.Common.{◌≡◌, ◌∙◌, ap, ap₂, sym, subst, ◌<�
 use Rattle.std.proofs.lemmas.Option.{slice_get-get_or, get_or_from_slice_get}
 use Rattle.sync_values.specs.declared.value.Value.{Value}
 use Rattle.sync_values.specs.declared.value.Value.TheVariants as value
-use Rattle.moment_inputs.proofs.Setting.{column_within, cell_there}
+use Rattle.moment_inputs.proofs.SetInputs.{column_within, cell_there}
 use Rattle.moment_inputs.proofs.inputs.set_column.Goals as goal
 
 pub bounds-now-name : goal.bounds-now-name

@@ -1,6 +1,6 @@
 use Rattle.std.proofs.Common.{arith, ◌≡◌, ◌<◌, sym, subst, ℕ, length, get_or}
 use Rattle.std.proofs.lemmas.Option.{slice_get-get_or}
-use Rattle.moment_inputs.proofs.Setting.{AreSet, none_set, set_next, all_set}
+use Rattle.moment_inputs.proofs.SetInputs.{AreSet, none_set, set_next, all_set}
 use Rattle.moment_inputs.proofs.inputs.set_inputs.Goals as goal
 
 pub loop-column-init : goal.loop-column-init

@@ -1,5 +1,5 @@
 use Rattle.std.proofs.Common.{length}
-use Rattle.moment_inputs.proofs.Setting.{AreSet}
+use Rattle.moment_inputs.proofs.SetInputs.{AreSet}
 use Rattle.moment_inputs.proofs.inputs.set_inputs.Given as goal
 
 abbrev pub invariant-loop-column : goal.invariant-loop-column

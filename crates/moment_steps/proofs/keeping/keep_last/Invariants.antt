@@ -1,5 +1,5 @@
 use Rattle.partition_step.proofs.Lists.{WrittenTo}
-use Rattle.moment_steps.specs.private.Keeping.{last_by}
+use Rattle.moment_steps.specs.Keeping.{last_by}
 use Rattle.moment_steps.proofs.keeping.keep_last.Given as goal
 
 abbrev pub invariant-loop-at : goal.invariant-loop-at

@@ -1,5 +1,5 @@
 use Rattle.partition_step.proofs.Lists.{WrittenTo}
-use Rattle.moment_steps.specs.private.Keeping.{now_by}
+use Rattle.moment_steps.specs.Keeping.{now_by}
 use Rattle.moment_steps.proofs.keeping.keep_now.Given as goal
 
 abbrev pub invariant-loop-at : goal.invariant-loop-at

@@ -1,6 +1,6 @@
 use Rattle.tree_step.specs.declared.cell.Standing.TheVariants.{Ticks}
 use Rattle.partition_step.proofs.Lists.{WrittenTo}
-use Rattle.moment_steps.specs.private.Opening.{opened_by}
+use Rattle.moment_steps.specs.Opening.{opened_by}
 use Rattle.moment_steps.proofs.opening.open_plain.Given as goal
 
 abbrev pub invariant-loop-at : goal.invariant-loop-at

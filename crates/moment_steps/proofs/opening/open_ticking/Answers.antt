@@ -1,7 +1,7 @@
 use Rattle.std.proofs.Common.{rules, arith, length, ◌<◌, ◌≤◌}
 use Rattle.partition_step.proofs.Lists.{written_next, written_last}
 use Rattle.moment_steps.specs.Ticked.{row_ticks}
-use Rattle.moment_steps.specs.private.Opening.{opened_by, standing}
+use Rattle.moment_steps.specs.Opening.{opened_by, standing}
 use Rattle.moment_steps.proofs.opening.open_ticking.Goals as goal
 
 pub loop-at-preserved : goal.loop-at-preserved

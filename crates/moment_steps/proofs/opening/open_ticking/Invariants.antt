@@ -1,6 +1,6 @@
 use Rattle.partition_step.proofs.Lists.{WrittenTo}
 use Rattle.moment_steps.specs.Ticked.{row_ticks}
-use Rattle.moment_steps.specs.private.Opening.{opened_by, standing}
+use Rattle.moment_steps.specs.Opening.{opened_by, standing}
 use Rattle.moment_steps.proofs.opening.open_ticking.Given as goal
 
 abbrev pub invariant-loop-at : goal.invariant-loop-at

@@ -1,5 +1,5 @@
 use Rattle.std.proofs.Common.{◌≡◌, drop}
-use Rattle.parameter_values.specs.private.Outcomes as outcomes
+use Rattle.parameter_values.specs.Outcomes as outcomes
 use Rattle.parameter_values.proofs.evaluate.chain_outcome.Given as goal
 
 abbrev pub invariant-loop-i : goal.invariant-loop-i

@@ -1,5 +1,5 @@
 use Rattle.std.proofs.Common.{◌≡◌, length}
-use Rattle.base_partition.specs.working.First.{AllMarked}
+use Rattle.base_partition.specs.private.First.{AllMarked}
 use Rattle.part_groups.proofs.first.mark_all.Given as goal
 
 abbrev pub invariant-loop-class : goal.invariant-loop-class

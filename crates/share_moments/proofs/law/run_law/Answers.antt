@@ -1,5 +1,5 @@
 use Rattle.std.proofs.Common.{map}
-use Rattle.flat_model.specs.Answers.{value_in}
+use Rattle.flat_model.specs.Values.{value_in}
 use Rattle.share_join.proofs.Telling.{run_moment}
 use Rattle.share_moments.specs.Sharing.{share_of}
 use Rattle.share_moments.proofs.Took.{run_beside}

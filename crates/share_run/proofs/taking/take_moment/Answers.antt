@@ -2,12 +2,12 @@ use Rattle.std.proofs.Common.{ap, ◌∙◌, sym, subst}
 use Rattle.moment_join.specs.Told.{earlier}
 use Rattle.moment_steps.specs.Stepped.{AreSteppedAt}
 use Rattle.moment_steps.specs.Ticked.{row_ticks}
-use Rattle.moment_steps.specs.private.Opening.{opened_by, standing}
+use Rattle.moment_steps.specs.Opening.{opened_by, standing}
 use Rattle.partition_step.specs.Steps.{CanStep}
-use Rattle.partition_step.specs.private.Writing.{IsWritten}
+use Rattle.partition_step.specs.Writing.{IsWritten}
 use Rattle.share_run.specs.Standing.{Holding}
 use Rattle.share_run.specs.Taking.{Plan}
-use Rattle.share_run.proofs.Starts.{telling, can_step}
+use Rattle.share_run.proofs.Starts.{showing, can_step}
 use Rattle.share_run.proofs.Waiting.{can_start, takes_share}
 use Rattle.share_run.proofs.taking.take_moment.Goals as goal
 
@@ -30,7 +30,7 @@ take_opened-behind-requires g c =
     let h : Holding = record { classes = u.classes.now; owners = u.owners.now; waiting = u.waiting.now; always = u.always.now; numbers = u.numbers.now; places = u.places.now; slots = c.args.slots.now; cells = c.args.cells.now; left = c.args.left.now } in
     let plan : Plan = record { at = p.at; ticks = row_ticks p.ticks.items; answers = p.answers.items } in
     let new = c.step_parts.new.slots in
-    let stepped : AreSteppedAt (telling h m plan c.args.now.now) h.classes h.slots new =
+    let stepped : AreSteppedAt (showing h m plan c.args.now.now) h.classes h.slots new =
     subst (λ xs. AreSteppedAt (record { equations = m.flat.equations; places = u.places.now; moment = p.at; ticks = row_ticks p.ticks.items; answers = xs; left = c.args.left.now }) h.classes h.slots new) c.deref-2.ensures.value
     (subst (λ ts. AreSteppedAt (record { equations = m.flat.equations; places = u.places.now; moment = p.at; ticks = row_ticks ts; answers = c.deref-2.result.now; left = c.args.left.now }) h.classes h.slots new) c.deref.ensures.value c.step_parts.ensures) in
     let gathered = c.gather.new.now in
@@ -49,7 +49,7 @@ returns-clause-takes g c =
     let h : Holding = record { classes = u.classes.now; owners = u.owners.now; waiting = u.waiting.now; always = u.always.now; numbers = u.numbers.now; places = u.places.now; slots = c.args.slots.now; cells = c.args.cells.now; left = c.args.left.now } in
     let plan : Plan = record { at = p.at; ticks = row_ticks p.ticks.items; answers = p.answers.items } in
     let new = c.step_parts.new.slots in
-    let stepped : AreSteppedAt (telling h m plan c.args.now.now) h.classes h.slots new =
+    let stepped : AreSteppedAt (showing h m plan c.args.now.now) h.classes h.slots new =
     subst (λ xs. AreSteppedAt (record { equations = m.flat.equations; places = u.places.now; moment = p.at; ticks = row_ticks p.ticks.items; answers = xs; left = c.args.left.now }) h.classes h.slots new) c.deref-2.ensures.value
     (subst (λ ts. AreSteppedAt (record { equations = m.flat.equations; places = u.places.now; moment = p.at; ticks = row_ticks ts; answers = c.deref-2.result.now; left = c.args.left.now }) h.classes h.slots new) c.deref.ensures.value c.step_parts.ensures) in
     let gathered = c.gather.new.now in

@@ -2,7 +2,7 @@ use Rattle.std.proofs.Common.{rules, arith, ◌≡◌, refl, ap, ◌∙◌, sym,
 use Rattle.std.specs.Vec.{with_items}
 use Rattle.std.proofs.lemmas.Option.{slice_get-get_or}
 use Rattle.share_run.specs.Standing.{holding_of}
-use Rattle.partition_step.specs.private.Writing.{IsWritten}
+use Rattle.partition_step.specs.Writing.{IsWritten}
 use Rattle.share_window.specs.Windows.{row_from, HasRunShare}
 use Rattle.share_window.specs.private.Owning.{own_by}
 use Rattle.share_window.proofs.Shown.{some_not_none, none_of, row_here, row_away, row_wide}

@@ -1,4 +1,4 @@
-use Rattle.side_theory.proofs.Setting.{set_on, clock_on}
+use Rattle.side_theory.proofs.SetCells.{set_on, clock_on}
 use Rattle.side_theory.proofs.law.set_on_law.Goals as goal
 
 pub returns : goal.returns

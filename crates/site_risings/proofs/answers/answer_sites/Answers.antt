@@ -1,5 +1,5 @@
 use Rattle.std.proofs.Common.{rules, arith, ◌≡◌, ◌∙◌, ◌≤◌, length, ap}
-use Rattle.flat_model.specs.Answers.{truth_in, views_of}
+use Rattle.flat_model.specs.Values.{truth_in, views_of}
 use Rattle.flat_model.specs.Meaning.{value_of}
 use Rattle.site_risings.proofs.Answering.{there, tells_next, tells_end, answered_none, answered_next, answered_end}
 use Rattle.site_risings.proofs.answers.answer_sites.Goals as goal

@@ -1,4 +1,4 @@
-use Rattle.flat_model.specs.Answers.{truth_in, views_of}
+use Rattle.flat_model.specs.Values.{truth_in, views_of}
 use Rattle.flat_model.specs.Meaning.{value_of}
 use Rattle.site_risings.proofs.Answering.{TellsBelow, AreAnsweredBelow}
 use Rattle.site_risings.proofs.answers.answer_sites.Given as goal

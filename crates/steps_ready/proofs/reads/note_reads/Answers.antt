@@ -2,7 +2,7 @@ use Rattle.std.proofs.Common.{ap, sym, subst, ◌∙◌, ◌≡◌, ◌+◌, ◌
 use Rattle.std.proofs.lemmas.Option.{slice_get-get_or}
 use Rattle.tree_step.specs.declared.taking.Entry.{Entry}
 use Rattle.tree_step.specs.Changed.{AreReadsOf}
-use Rattle.steps_ready.proofs.Told.{pushed_long, reads_more}
+use Rattle.steps_ready.proofs.Gathered.{pushed_long, reads_more}
 use Rattle.steps_ready.proofs.reads.note_reads.Goals as goal
 
 pub loop-entry-preserved : goal.loop-entry-preserved

@@ -2,9 +2,9 @@ use Rattle.std.proofs.Common.{arith, ap, sym, subst, ◌≡◌, ◌≤◌, ◌+�
 use Rattle.flat_model.specs.declared.equation.Equation.TheVariants.{Valued}
 use Rattle.flat_model.specs.Occurrences.{bare_count, held_count, converted_count}
 use Rattle.tree_step.specs.declared.changed.Reads.{Reads}
-use Rattle.tree_step.specs.Changed.{TellReads}
+use Rattle.tree_step.specs.Changed.{HasReads}
 use Rattle.eq_orient.specs.Gathered.{count_of}
-use Rattle.steps_ready.proofs.Told.{tell_side}
+use Rattle.steps_ready.proofs.Gathered.{tell_side}
 use Rattle.steps_ready.proofs.reads.reads_of.Goals as goal
 
 pub returns : goal.returns
@@ -24,5 +24,5 @@ returns c =
     let e : count_of x c.gather-6.new.names.items ≡ count_of x c.gather-5.new.names.items + converted_count x right = c.in_ok-gather-6.ensures x in
     let all : count_of x c.from_vec-2.result ≡ count_of x c.gather-6.new.names.items = ap (count_of x) c.from_vec-2.ensures in
     (omega (arith, a, b, d, e, all), omega (arith, a, b, d, e, all)) in
-    let both : TellReads (Valued left right c.in-Valued.clause) reads = (tell_side left reads (λ x. (bare x).0) (λ x. (held x).0), tell_side right reads (λ x. (bare x).1) (λ x. (held x).1)) in
-    subst (λ equation. TellReads equation reads) (sym c.in-Valued.is) both
+    let both : HasReads (Valued left right c.in-Valued.clause) reads = (tell_side left reads (λ x. (bare x).0) (λ x. (held x).0), tell_side right reads (λ x. (bare x).1) (λ x. (held x).1)) in
+    subst (λ equation. HasReads equation reads) (sym c.in-Valued.is) both

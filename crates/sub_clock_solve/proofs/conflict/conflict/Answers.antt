@@ -1,7 +1,7 @@
 use Rattle.std.proofs.Common.{◌⊎◌, sym, subst}
 use Rattle.clock_spread.specs.Least.{IsLeastOf, IsNumberIn}
 use Rattle.clock_spread.proofs.Leasts.{least_both, least_left}
-use Rattle.sub_clock_solve.specs.Failing.{Differs, FailsGiven}
+use Rattle.sub_clock_solve.specs.private.Failing.{Differs, FailsGiven}
 use Rattle.sub_clock_solve.proofs.conflict.conflict.Goals as goal
 
 pub returns-in-Some : goal.returns-in-Some

@@ -2,7 +2,7 @@ use Rattle.std.proofs.Common.{◌≡◌, ◌∙◌, ◌<◌, Some, sym, ap, leng
 use Rattle.std.proofs.lemmas.List.{get_or_default}
 use Rattle.clock_spread.specs.declared.offers.Found.TheVariants.{Not}
 use Rattle.clock_spread.specs.Found.{class_in, found_of}
-use Rattle.sub_clock_solve.specs.Failing.{kept_grid}
+use Rattle.sub_clock_solve.specs.private.Failing.{kept_grid}
 use Rattle.sub_clock_solve.proofs.Clashing.{source_some, not_from, not_to}
 use Rattle.sub_clock_solve.proofs.conflict.differs.Goals as goal
 

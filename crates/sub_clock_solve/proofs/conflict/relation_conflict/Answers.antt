@@ -2,7 +2,7 @@ use Rattle.std.proofs.Common.{rules, arith, ◌+◌, ◌<◌, ◌≤◌, refl, s
 use Rattle.std.proofs.lemmas.List.{take_all}
 use Rattle.clock_spread.specs.Least.{IsLeastOf, IsNumberIn}
 use Rattle.clock_spread.proofs.Leasts.{least_more}
-use Rattle.sub_clock_solve.specs.Failing.{FailsGiven}
+use Rattle.sub_clock_solve.specs.private.Failing.{FailsGiven}
 use Rattle.sub_clock_solve.proofs.conflict.relation_conflict.Goals as goal
 
 pub loop-relation-preserved : goal.loop-relation-preserved

@@ -3,7 +3,7 @@ use Rattle.clock_terms.specs.Clocking.{Held}
 use Rattle.clock_spread.specs.Found.{Agree}
 use Rattle.clock_spread.specs.Turn.{AreProper}
 use Rattle.clock_spread.specs.Least.{IsLeastOf, IsNumberIn}
-use Rattle.sub_clock_solve.specs.Failing.{FailsGiven}
+use Rattle.sub_clock_solve.specs.private.Failing.{FailsGiven}
 use Rattle.sub_clock_solve.proofs.conflict.relation_conflict.Given as goal
 
 abbrev pub invariant-loop-relation : goal.invariant-loop-relation

@@ -3,8 +3,8 @@ use Rattle.std.proofs.lemmas.List.{take_all}
 use Rattle.clock_terms.specs.Source.{Source, every}
 use Rattle.clock_spread.specs.Least.{IsLeastOf, IsNumberIn}
 use Rattle.clock_spread.proofs.Leasts.{least_more}
-use Rattle.sub_clock_solve.specs.Failing.{Differs}
-use Rattle.sub_clock_solve.specs.Given.{IsSource}
+use Rattle.sub_clock_solve.specs.private.Failing.{Differs}
+use Rattle.sub_clock_solve.specs.private.Given.{IsSource}
 use Rattle.sub_clock_solve.proofs.Giving.{source_at, sources_length}
 use Rattle.sub_clock_solve.proofs.conflict.source_conflict.Goals as goal
 

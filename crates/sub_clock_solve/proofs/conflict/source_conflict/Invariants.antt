@@ -5,8 +5,8 @@ use Rattle.clock_terms.specs.Clocking.{Held}
 use Rattle.clock_spread.specs.Found.{Agree}
 use Rattle.clock_spread.specs.Turn.{AreProper}
 use Rattle.clock_spread.specs.Least.{IsLeastOf, IsNumberIn}
-use Rattle.sub_clock_solve.specs.Given.{AreSources}
-use Rattle.sub_clock_solve.specs.Failing.{Differs}
+use Rattle.sub_clock_solve.specs.private.Given.{AreSources}
+use Rattle.sub_clock_solve.specs.private.Failing.{Differs}
 use Rattle.sub_clock_solve.proofs.conflict.source_conflict.Given as goal
 
 abbrev pub invariant-loop-given : goal.invariant-loop-given

@@ -4,7 +4,7 @@ use Rattle.rational_time.specs.Multiple.{HasMultipleBelow}
 use Rattle.clock_spread.specs.declared.offers.Found.TheVariants.{Not}
 use Rattle.clock_spread.specs.Found.{found_of}
 use Rattle.sub_clock_solve.specs.Grain.{denominators, IsGrain}
-use Rattle.sub_clock_solve.specs.Gathering.{kept_grids}
+use Rattle.sub_clock_solve.specs.private.Gathering.{kept_grids}
 use Rattle.sub_clock_solve.proofs.Grains.{grain_none, grain_has}
 use Rattle.sub_clock_solve.proofs.Gathers.{class_more}
 use Rattle.sub_clock_solve.proofs.gather.first_coarse.Goals as goal

@@ -3,7 +3,7 @@ use Rattle.std.proofs.lemmas.List.{get_or_default}
 use Rattle.clock_spread.specs.declared.offers.Found.TheVariants.{Not}
 use Rattle.clock_spread.specs.Found.{found_of}
 use Rattle.clock_spread.specs.Queue.{marked}
-use Rattle.sub_clock_solve.specs.Gathering.{kept_grids, kept_of}
+use Rattle.sub_clock_solve.specs.private.Gathering.{kept_grids, kept_of}
 use Rattle.sub_clock_solve.proofs.Gathers.{kept_more, kept_false}
 use Rattle.sub_clock_solve.proofs.gather.gathered.Goals as goal
 use Rattle.sub_clock_solve.proofs.gather.gathered.Goals.{then-clocked-class+in_ok-keep, else-clocked-class}

@@ -1,5 +1,5 @@
 use Rattle.std.proofs.Common.{◌≡◌, take}
-use Rattle.sub_clock_solve.specs.Gathering.{kept_grids}
+use Rattle.sub_clock_solve.specs.private.Gathering.{kept_grids}
 use Rattle.sub_clock_solve.proofs.gather.gathered.Given as goal
 
 abbrev pub invariant-loop-class : goal.invariant-loop-class

@@ -1,5 +1,5 @@
 use Rattle.std.proofs.Common.{rules, ◌≡◌, ◌+◌, ◌++◌, ◌∷◌, [], None, sym, subst}
-use Rattle.sub_clock_solve.specs.Given.{IsStep}
+use Rattle.sub_clock_solve.specs.private.Given.{IsStep}
 use Rattle.sub_clock_solve.proofs.Giving.{every_step, site_step, given_of}
 use Rattle.sub_clock_solve.proofs.given.add.Goals as goal
 

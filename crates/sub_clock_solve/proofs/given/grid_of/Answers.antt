@@ -1,7 +1,7 @@
 use Rattle.std.proofs.Common.{◌∙◌, ◌<◌, refl, sym, ap, subst, None, Some, false}
 use Rattle.rational_time.specs.Fraction.{IsFraction}
 use Rattle.clock_terms.specs.Source.{kind_of}
-use Rattle.sub_clock_solve.specs.Given.{GivesNone, GivesGrid}
+use Rattle.sub_clock_solve.specs.private.Given.{GivesNone, GivesGrid}
 use Rattle.sub_clock_solve.specs.Standing.{IsGivenKind}
 use Rattle.clock_terms.proofs.ClockKinds.{kind_of-Name, kind_of-Inferred, kind_of-Rational, kind_of-Event, kind_of-Convert}
 use Rattle.sub_clock_solve.proofs.Giving.{every_grid, site_grid}

@@ -1,8 +1,8 @@
 use Rattle.std.proofs.Common.{◌≡◌, List, All, length, take}
 use Rattle.clock_terms.specs.Source.{Source}
 use Rattle.clock_spread.specs.Found.{IsFineFound, Agree, NoneLost}
-use Rattle.sub_clock_solve.specs.Given.{AreSources}
-use Rattle.sub_clock_solve.specs.Seeding.{start_of}
+use Rattle.sub_clock_solve.specs.private.Given.{AreSources}
+use Rattle.sub_clock_solve.specs.private.Seeding.{start_of}
 use Rattle.sub_clock_solve.proofs.seed.seed_all.Given as goal
 
 abbrev pub invariant-loop-given : goal.invariant-loop-given

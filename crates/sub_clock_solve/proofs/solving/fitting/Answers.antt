@@ -3,7 +3,7 @@ use Rattle.rational_time.specs.Multiple.{HasMultipleBelow}
 use Rattle.clock_terms.specs.Source.{sources_of}
 use Rattle.clock_terms.specs.Least.{IsLeast}
 use Rattle.sub_clock_solve.specs.Grain.{denominators}
-use Rattle.sub_clock_solve.specs.Gathering.{kept_grids}
+use Rattle.sub_clock_solve.specs.private.Gathering.{kept_grids}
 use Rattle.sub_clock_solve.specs.Solving.{said_of, FailsAt, IsSolution}
 use Rattle.sub_clock_solve.proofs.Giving.{given_nodes, all_fine}
 use Rattle.sub_clock_solve.proofs.Rounding.{final_agree, final_proper}

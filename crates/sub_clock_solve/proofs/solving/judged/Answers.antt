@@ -1,5 +1,5 @@
 use Rattle.std.proofs.Common.{rules, ◌≡◌, subst}
-use Rattle.sub_clock_solve.specs.Spreading.{IsSpread}
+use Rattle.sub_clock_solve.specs.private.Spreading.{IsSpread}
 use Rattle.sub_clock_solve.proofs.Ending.{unknown_answer, lost_answer}
 use Rattle.sub_clock_solve.proofs.solving.judged.Goals as goal
 

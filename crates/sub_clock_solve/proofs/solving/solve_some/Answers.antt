@@ -1,7 +1,7 @@
 use Rattle.std.proofs.Common.{rules, ◌≡◌, ◌<◌, ◌^◌, sym, subst, length, All}
 use Rattle.clock_terms.specs.Position.{IsFine}
 use Rattle.clock_terms.specs.Source.{sources_of}
-use Rattle.sub_clock_solve.specs.Given.{AreSources}
+use Rattle.sub_clock_solve.specs.private.Given.{AreSources}
 use Rattle.sub_clock_solve.proofs.Giving.{given_nodes, all_fine, sources_proper}
 use Rattle.sub_clock_solve.proofs.solving.solve_some.Goals as goal
 

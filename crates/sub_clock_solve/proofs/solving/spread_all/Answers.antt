@@ -2,7 +2,7 @@ use Rattle.std.proofs.Common.{rules, ◌≡◌, ◌∙◌, ◌++◌, sym, ap, su
 use Rattle.std.proofs.Math.Seq.{take-append_seam}
 use Rattle.clock_spread.specs.Found.{Agree, NoneLost}
 use Rattle.clock_spread.specs.Turn.{said_by, Settles}
-use Rattle.sub_clock_solve.specs.Seeding.{start_of}
+use Rattle.sub_clock_solve.specs.private.Seeding.{start_of}
 use Rattle.sub_clock_solve.proofs.Rounding.{start_proper}
 use Rattle.sub_clock_solve.proofs.Seeds.{start_fine}
 use Rattle.sub_clock_solve.proofs.solving.spread_all.Goals as goal

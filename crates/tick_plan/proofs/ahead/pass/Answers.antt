@@ -2,7 +2,7 @@ use Rattle.std.proofs.Common.{◌∙◌, sym, ap, subst, length, get_or, Some}
 use Rattle.std.proofs.lemmas.List.{with_items_is}
 use Rattle.std.proofs.Props.{props}
 use Rattle.flat_model.specs.declared.clock.Moment.TheVariants.{At}
-use Rattle.tick_plan.specs.Axis.{IsPlaced}
+use Rattle.tick_plan.specs.private.Axis.{IsPlaced}
 use Rattle.tick_plan.proofs.Untold.{lift, lift₃, known, known₂}
 use Rattle.tick_plan.proofs.Passing.{steps_rise, root_not_before, below_limit, placed_behind, passed_of}
 use Rattle.tick_plan.proofs.ahead.pass.Goals as goal

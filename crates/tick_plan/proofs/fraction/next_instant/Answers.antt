@@ -1,5 +1,5 @@
 use Rattle.std.proofs.Common.{sym, subst}
-use Rattle.tick_plan.specs.Course.{NextIs}
+use Rattle.tick_plan.specs.private.Course.{NextIs}
 use Rattle.tick_plan.proofs.Untold.{lift, lift₃}
 use Rattle.tick_plan.proofs.Nexts.{next_of}
 use Rattle.tick_plan.proofs.fraction.next_instant.Goals as goal

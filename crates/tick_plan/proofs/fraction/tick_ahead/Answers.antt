@@ -1,7 +1,7 @@
 use Rattle.std.proofs.Common.{◌∙◌, sym, ap, subst, arith, ◌+◌, length, Some}
 use Rattle.std.proofs.Props.{props}
 use Rattle.std.proofs.lemmas.Option.{slice_get_within}
-use Rattle.tick_plan.specs.Course.{IsFirstOf}
+use Rattle.tick_plan.specs.private.Course.{IsFirstOf}
 use Rattle.tick_plan.proofs.Untold.{lift, known}
 use Rattle.tick_plan.proofs.Fractions.{IsTickBelow, none_below, first_more, first_still, all_below, own_grid, found}
 use Rattle.tick_plan.proofs.fraction.tick_ahead.Goals as goal

@@ -1,4 +1,4 @@
-use Rattle.tick_plan.specs.Course.{IsFirstOf}
+use Rattle.tick_plan.specs.private.Course.{IsFirstOf}
 use Rattle.tick_plan.proofs.Fractions.{IsTickBelow}
 use Rattle.tick_plan.proofs.fraction.tick_ahead.Given as goal
 

@@ -5,7 +5,7 @@ use Rattle.std.proofs.lemmas.List.Sorted.{Contains-permutation, IsPermutation-sy
 use Rattle.std.proofs.lemmas.Option.{slice_get-get_or, slice_get_within}
 use Rattle.tick_plan.proofs.Growing.{grown}
 use Rattle.tick_plan.proofs.LeafLaws.{kept_once, leaf_more, all_more, all_still}
-use Rattle.tick_plan.specs.Leaves.{leaf_at}
+use Rattle.tick_plan.specs.private.Leaves.{leaf_at}
 use Rattle.tick_plan.proofs.leaves.leaves.Goals as goal
 use Rattle.tick_plan.proofs.leaves.leaves.Goals.{in-Periodic+in_ok-push, in_default}
 

@@ -1,7 +1,7 @@
 use Rattle.std.proofs.Common.{ℕ, ◌<◌, ◌≤◌, length, Contains}
 use Rattle.rational_time.specs.declared.ratio.Ratio.{Ratio}
-use Rattle.tick_plan.specs.Course.{IsPeriodic}
-use Rattle.tick_plan.specs.Leaves.{IsLeafOf, leaf_at}
+use Rattle.tick_plan.specs.private.Course.{IsPeriodic}
+use Rattle.tick_plan.specs.private.Leaves.{IsLeafOf, leaf_at}
 use Rattle.tick_plan.specs.declared.leaves.Leaf.{Leaf}
 use Rattle.tick_plan.proofs.leaves.leaves.Given as goal
 

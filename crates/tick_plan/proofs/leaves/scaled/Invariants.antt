@@ -1,7 +1,7 @@
 use Rattle.std.proofs.Common.{◌≡◌, ℕ, ◌<◌, length, get_or, slice_get, Some}
 use Rattle.rational_time.specs.declared.ratio.Ratio.{Ratio}
 use Rattle.flat_model.specs.declared.clock.Clock.TheVariants.{Periodic}
-use Rattle.tick_plan.specs.Grid.{AreUnits}
+use Rattle.tick_plan.specs.private.Grid.{AreUnits}
 use Rattle.tick_plan.proofs.leaves.scaled.Given as goal
 
 abbrev pub invariant-loop-clock : goal.invariant-loop-clock

@@ -1,5 +1,5 @@
 use Rattle.std.proofs.Common.{ap, ◌∙◌, ◌++◌, codes, append_assoc}
-use Rattle.trace_print.specs.Openings.{openings}
+use Rattle.trace_print.specs.private.Openings.{openings}
 use Rattle.trace_print.proofs.Joins.{openings_end}
 use Rattle.trace_print.proofs.expr.put_openings.Goals as goal
 

@@ -1,5 +1,5 @@
 use Rattle.std.proofs.Common.{◌≡◌, ◌++◌}
-use Rattle.trace_print.specs.Openings.{openings}
+use Rattle.trace_print.specs.private.Openings.{openings}
 use Rattle.trace_print.proofs.expr.put_openings.Given as goal
 
 abbrev pub invariant-loop-turn : goal.invariant-loop-turn

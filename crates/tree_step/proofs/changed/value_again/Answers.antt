@@ -1,6 +1,6 @@
 use Rattle.std.proofs.Common.{◌≡◌, sym, subst, All, Option, Some, None, List, ℕ}
 use Rattle.sync_values.specs.declared.value.Value.{Value}
-use Rattle.flat_model.specs.Answers.{value_in}
+use Rattle.flat_model.specs.Values.{value_in}
 use Rattle.tree_step.specs.declared.cell.Cell.{Cell}
 use Rattle.tree_step.specs.declared.changed.Reads.{Reads}
 use Rattle.tree_step.specs.Starts.{Sight, sight_of}

@@ -1,5 +1,5 @@
 use Rattle.std.proofs.Common.{sym, subst, length, map}
-use Rattle.parameter_values.specs.private.Givens.{valued}
+use Rattle.parameter_values.specs.Givens.{valued}
 use Rattle.value_rules.specs.private.Missing.{waiting, IsFirstWaiting}
 use Rattle.value_rules.proofs.Reading.{long_map}
 use Rattle.value_rules.proofs.Verdicts.{is_waiting, is_failing, is_kept}

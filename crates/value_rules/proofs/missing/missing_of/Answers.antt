@@ -1,5 +1,5 @@
 use Rattle.std.proofs.Common.{rules, ◌≡◌, ap, sym, ◌∙◌, true, false, Some, option_map}
-use Rattle.parameter_values.specs.private.Outcomes.{outcome}
+use Rattle.parameter_values.specs.Outcomes.{outcome}
 use Rattle.value_rules.specs.private.Missing.{is_no_value, missing_reads}
 use Rattle.value_rules.proofs.Evaluated.{missing_is}
 use Rattle.value_rules.proofs.missing.missing_of.Goals as goal

@@ -1,6 +1,6 @@
 use Rattle.std.proofs.Common.{◌≡◌, map, take, length}
 use Rattle.mo_order.specs.Graphs.{graph_of}
-use Rattle.parameter_values.specs.private.Givens.{valued}
+use Rattle.parameter_values.specs.Givens.{valued}
 use Rattle.value_rules.specs.private.Missing.{waiting}
 use Rattle.value_rules.proofs.missing.waiting_graph.Given as goal
 

@@ -1,9 +1,9 @@
 use Rattle.std.proofs.Common.{◌≡◌, refl, ap, ◌∙◌, subst, length, map}
-use Rattle.flat_model.specs.Answers.{truth_in, views_of}
+use Rattle.flat_model.specs.Values.{truth_in, views_of}
 use Rattle.flat_model.specs.Meaning.{value_of}
 use Rattle.moment_body.proofs.Written.{whole_back}
-use Rattle.partition_step.specs.private.Writing.{IsWritten}
-use Rattle.site_risings.specs.Answers.{TellsFirst}
+use Rattle.partition_step.specs.Writing.{IsWritten}
+use Rattle.site_risings.specs.SiteFailures.{TellsFirst}
 use Rattle.window_plan.proofs.Filled.{may_note, written_fills}
 use Rattle.window_plan.proofs.planning.fill_moment.Goals as goal
 

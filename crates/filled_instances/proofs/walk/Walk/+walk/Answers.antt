@@ -5,7 +5,7 @@ use Rattle.class_scopes.proofs.Marks.{on_ok}
 use Rattle.class_scopes.specs.Types.{type_of, short_of}
 use Rattle.class_scopes.specs.declared.type_name.TypeName.TheVariants.{Class}
 use Rattle.flat_instances.specs.Kept.{seen}
-use Rattle.flat_instances.specs.private.Force.{AreInForce, stepped}
+use Rattle.flat_instances.specs.Force.{AreInForce, stepped}
 use Rattle.flat_instances.specs.private.Walks.{Adds, AddsAlong}
 use Rattle.flat_instances.proofs.Walking.{added_more, inner_items, none_behind}
 use Rattle.filled_instances.specs.Counting.{counts}

@@ -1,5 +1,5 @@
 use Rattle.std.proofs.Common.{take}
-use Rattle.flat_instances.specs.private.Force.{AddsGiving, args_given}
+use Rattle.flat_instances.specs.Force.{AddsGiving, args_given}
 use Rattle.flat_instances.proofs.modifiers.Modifiers.+add.Given as goal
 
 abbrev pub invariant-add_args-loop-arg : goal.invariant-add_args-loop-arg

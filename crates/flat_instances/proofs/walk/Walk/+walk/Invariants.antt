@@ -1,7 +1,7 @@
 use Rattle.std.proofs.Common.{◌≡◌, ◌+◌, ◌-◌, ◌*◌, ◌++◌, List, map, flat_map, take}
 use Rattle.flat_instances.specs.Instances.{Step}
 use Rattle.flat_instances.specs.Kept.{seen}
-use Rattle.flat_instances.specs.private.Force.{AreInForce}
+use Rattle.flat_instances.specs.Force.{AreInForce}
 use Rattle.flat_instances.specs.private.Walks.{component_items}
 use Rattle.flat_instances.proofs.walk.Walk.+walk.Given as goal
 

@@ -1,5 +1,5 @@
 use Rattle.std.proofs.Common.{◌∙◌, sym, Some}
-use Rattle.parameter_values.specs.private.Slots.{seen}
+use Rattle.parameter_values.specs.Slots.{seen}
 use Rattle.flat_answer.specs.Flat.{IsNameOf}
 use Rattle.flat_names.proofs.Named.{adds_plain}
 use Rattle.flat_names.proofs.names.Namer.add_item.Goals as goal

@@ -1,7 +1,7 @@
 use Rattle.std.proofs.Common.{◌≡◌, ◌∙◌, ap, sym, subst, Some}
 use Rattle.flat_instances.specs.Kept.{placed_in}
 use Rattle.parameter_values.specs.Values.{of_kind}
-use Rattle.parameter_values.specs.private.Outcomes.{answer_of, outcome}
+use Rattle.parameter_values.specs.Outcomes.{answer_of, outcome}
 use Rattle.flat_names.proofs.Named.{evaluated}
 use Rattle.flat_names.proofs.names.Namer.evaluated.Goals as goal
 

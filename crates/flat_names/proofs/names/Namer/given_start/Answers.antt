@@ -2,7 +2,7 @@ use Rattle.std.proofs.Common.{◌≡◌, ◌∙◌, ap, sym, subst, Some, option
 use Rattle.std.specs.Result.{IfOk}
 use Rattle.flat_instances.specs.Kept.{placed_in, seen_variable}
 use Rattle.parameter_values.specs.Values.{value_by}
-use Rattle.parameter_values.specs.private.Slots.{seen}
+use Rattle.parameter_values.specs.Slots.{seen}
 use Rattle.flat_names.proofs.names.Namer.given_start.Goals as goal
 
 pub returns-in-Some : goal.returns-in-Some

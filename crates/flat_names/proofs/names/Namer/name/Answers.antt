@@ -2,7 +2,7 @@ use Rattle.std.proofs.Common.{◌≡◌, ◌∙◌, ap, sym, Some}
 use Rattle.class_scopes.specs.Types.{kind_of}
 use Rattle.flat_instances.specs.Kept.{seen_variable}
 use Rattle.parameter_values.specs.Values.{value_by}
-use Rattle.parameter_values.specs.private.Slots.{seen}
+use Rattle.parameter_values.specs.Slots.{seen}
 use Rattle.flat_answer.specs.Flat.{start_of}
 use Rattle.flat_names.proofs.names.Namer.name.Goals as goal
 

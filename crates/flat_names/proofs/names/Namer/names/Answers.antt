@@ -2,7 +2,7 @@ use Rattle.std.proofs.Common.{◌<◌, ◌≤◌, ◌≡◌, ◌++◌, ◌∙◌
 use Rattle.std.specs.List.{AllZip}
 use Rattle.std.proofs.lemmas.List.{take_all}
 use Rattle.class_scopes.proofs.Leasts.{one_more}
-use Rattle.parameter_values.specs.private.Slots.{seen}
+use Rattle.parameter_values.specs.Slots.{seen}
 use Rattle.flat_answer.specs.Flat.{IsNameOf}
 use Rattle.flat_names.specs.private.Naming.{plain_in}
 use Rattle.flat_names.proofs.Named.{plain_all}

@@ -1,6 +1,6 @@
 use Rattle.std.proofs.Common.{flat_map, take, Some}
 use Rattle.std.specs.List.{AllZip}
-use Rattle.parameter_values.specs.private.Slots.{seen}
+use Rattle.parameter_values.specs.Slots.{seen}
 use Rattle.flat_answer.specs.Flat.{IsNameOf}
 use Rattle.flat_names.specs.private.Naming.{plain_in}
 use Rattle.flat_names.proofs.names.Namer.names.Given as goal

@@ -1,6 +1,6 @@
 use Rattle.std.proofs.Common.{◌<◌, ◌∙◌, sym, length, arith, refl}
 use Rattle.std.proofs.lemmas.Option.{slice_get_read}
-use Rattle.flat_types.specs.Checked.{checked}
+use Rattle.flat_types.specs.private.Checked.{checked}
 use Rattle.flat_types.proofs.OneAnswer.{right_before}
 use Rattle.flat_types.proofs.reader.Reader.equations.Goals as goal
 

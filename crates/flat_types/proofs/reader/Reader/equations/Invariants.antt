@@ -1,5 +1,5 @@
 use Rattle.std.proofs.Common.{◌≡◌, ◌≤◌, map, take, length, Ok}
-use Rattle.flat_types.specs.Checked.{checked}
+use Rattle.flat_types.specs.private.Checked.{checked}
 use Rattle.flat_types.proofs.reader.Reader.equations.Given as goal
 
 abbrev pub invariant-loop-i : goal.invariant-loop-i

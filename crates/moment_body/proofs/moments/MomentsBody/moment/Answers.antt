@@ -1,6 +1,6 @@
 use Rattle.std.proofs.Common.{rules, ◌≡◌, refl, ap, ◌∙◌, length, map, None}
 use Rattle.std.specs.Vec.{with_items}
-use Rattle.flat_model.specs.Answers.{value_in}
+use Rattle.flat_model.specs.Values.{value_in}
 use Rattle.moment_join.specs.Told.{earlier}
 use Rattle.moment_moves.specs.Moments.{fault_of}
 use Rattle.moment_body.specs.declared.sheet.Sheet.{Sheet}

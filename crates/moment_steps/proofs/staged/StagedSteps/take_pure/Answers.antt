@@ -4,8 +4,8 @@ use Rattle.tree_step.specs.declared.cell.Standing.TheVariants.{Ticks}
 use Rattle.tree_step.specs.Changed.{CanStartChanged}
 use Rattle.tree_step.specs.Takes.{TakesUses}
 use Rattle.moment_body.proofs.Written.{whole_back}
-use Rattle.partition_step.specs.private.Writing.{IsWritten}
-use Rattle.moment_steps.specs.private.Opening.{opened_by}
+use Rattle.partition_step.specs.Writing.{IsWritten}
+use Rattle.moment_steps.specs.Opening.{opened_by}
 use Rattle.moment_steps.proofs.Pure.{can_take_pure, takes_pure}
 use Rattle.moment_steps.proofs.staged.StagedSteps.take_pure.Goals as goal
 

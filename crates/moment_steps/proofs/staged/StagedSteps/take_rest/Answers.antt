@@ -7,13 +7,13 @@ use Rattle.tree_step.specs.Takes.{TakesUses}
 use Rattle.first_failure.specs.declared.least.EquationFailing.{EquationFailing}
 use Rattle.moment_join.specs.Told.{earlier, earliest}
 use Rattle.moment_body.proofs.Written.{whole_back}
-use Rattle.partition_step.specs.Steps.{Telling, CanStep}
-use Rattle.partition_step.specs.private.Writing.{IsWritten}
+use Rattle.partition_step.specs.Steps.{Showing, CanStep}
+use Rattle.partition_step.specs.Writing.{IsWritten}
 use Rattle.moment_steps.specs.declared.piece.Piece.{Piece}
 use Rattle.moment_steps.specs.Gathered.{told_in, gathered_at}
 use Rattle.moment_steps.specs.Stepped.{AreSteppedAt}
 use Rattle.moment_steps.specs.Ticked.{row_ticks}
-use Rattle.moment_steps.specs.private.Opening.{opened_by, standing}
+use Rattle.moment_steps.specs.Opening.{opened_by, standing}
 use Rattle.moment_steps.specs.Settled.{stages_in}
 use Rattle.moment_steps.specs.Standing.{HasEnded}
 use Rattle.moment_steps.specs.Steps.{stages_of, based_of}
@@ -50,10 +50,10 @@ take_unclocked-behind-requires g c =
     let gathered = c.gather.new.now in
     let shown = c.open_ticking.new.cells in
     let tells : IsWritten (λ class old. ticks class) w.ticks.items told = subst (λ old. IsWritten (λ class was. ticks class) old told) c.as_mut_slice-ticks.ensures.value c.tell.ensures in
-    let telling : Telling = record { equations = m.flat.equations; places = w.places; moment = c.args.at; ticks = row_ticks told; answers = c.args.answers.now; left = w.left } in
-    let stepped : AreSteppedAt telling m.clocking.partitions w.slots.items new =
-    subst (λ old. AreSteppedAt telling m.clocking.partitions old new) c.as_mut_slice-slots.ensures.value
-    (subst (λ ps. AreSteppedAt telling ps c.as_mut_slice-slots.result.now new) c.as_slice-partitions.ensures
+    let showing : Showing = record { equations = m.flat.equations; places = w.places; moment = c.args.at; ticks = row_ticks told; answers = c.args.answers.now; left = w.left } in
+    let stepped : AreSteppedAt showing m.clocking.partitions w.slots.items new =
+    subst (λ old. AreSteppedAt showing m.clocking.partitions old new) c.as_mut_slice-slots.ensures.value
+    (subst (λ ps. AreSteppedAt showing ps c.as_mut_slice-slots.result.now new) c.as_slice-partitions.ensures
     (subst (λ ps. AreSteppedAt (record { equations = m.flat.equations; places = ps; moment = c.args.at; ticks = row_ticks told; answers = c.args.answers.now; left = w.left }) c.as_slice-partitions.result.now c.as_mut_slice-slots.result.now new) c.as_slice-places.ensures c.step_parts.ensures)) in
     let gathers : IsWritten (gathered_at m.clocking w.numbers w.places new) c.args.now.now gathered =
     subst (λ ps. IsWritten (gathered_at m.clocking w.numbers ps new) c.args.now.now gathered) c.as_slice-places.ensures
@@ -78,10 +78,10 @@ returns-clause-same g c =
     let gathered = c.gather.new.now in
     let shown = c.open_ticking.new.cells in
     let tells : IsWritten (λ class old. ticks class) w.ticks.items told = subst (λ old. IsWritten (λ class was. ticks class) old told) c.as_mut_slice-ticks.ensures.value c.tell.ensures in
-    let telling : Telling = record { equations = m.flat.equations; places = w.places; moment = c.args.at; ticks = row_ticks told; answers = c.args.answers.now; left = w.left } in
-    let stepped : AreSteppedAt telling m.clocking.partitions w.slots.items new =
-    subst (λ old. AreSteppedAt telling m.clocking.partitions old new) c.as_mut_slice-slots.ensures.value
-    (subst (λ ps. AreSteppedAt telling ps c.as_mut_slice-slots.result.now new) c.as_slice-partitions.ensures
+    let showing : Showing = record { equations = m.flat.equations; places = w.places; moment = c.args.at; ticks = row_ticks told; answers = c.args.answers.now; left = w.left } in
+    let stepped : AreSteppedAt showing m.clocking.partitions w.slots.items new =
+    subst (λ old. AreSteppedAt showing m.clocking.partitions old new) c.as_mut_slice-slots.ensures.value
+    (subst (λ ps. AreSteppedAt showing ps c.as_mut_slice-slots.result.now new) c.as_slice-partitions.ensures
     (subst (λ ps. AreSteppedAt (record { equations = m.flat.equations; places = ps; moment = c.args.at; ticks = row_ticks told; answers = c.args.answers.now; left = w.left }) c.as_slice-partitions.result.now c.as_mut_slice-slots.result.now new) c.as_slice-places.ensures c.step_parts.ensures)) in
     let gathers : IsWritten (gathered_at m.clocking w.numbers w.places new) c.args.now.now gathered =
     subst (λ ps. IsWritten (gathered_at m.clocking w.numbers ps new) c.args.now.now gathered) c.as_slice-places.ensures
@@ -92,7 +92,7 @@ returns-clause-same g c =
     (subst (λ ns. IsWritten (opened_by ns c.as_slice-last.result.now gathered (standing m.clocking (row_ticks told) c.args.answers.now)) c.as_mut_slice-cells.result.now shown) c.as_slice-numbers.ensures c.open_ticking.ensures)) in
     let size : length new ≡ length w.slots.items = stepped.long in
     subst (λ sl. stages_in w.pure w.waiting sl ≡ stages_in w.pure w.waiting w.slots.items) (sym (whole_back w.slots.len w.slots.items new w.slots.ok.0 size))
-    (same_stages telling m.clocking.partitions w.pure w.waiting w.slots.items new stepped)
+    (same_stages showing m.clocking.partitions w.pure w.waiting w.slots.items new stepped)
 
 pub returns-clause-takes : goal.returns-clause-takes
 returns-clause-takes g c =
@@ -104,10 +104,10 @@ returns-clause-takes g c =
     let gathered = c.gather.new.now in
     let shown = c.open_ticking.new.cells in
     let tells : IsWritten (λ class old. ticks class) w.ticks.items told = subst (λ old. IsWritten (λ class was. ticks class) old told) c.as_mut_slice-ticks.ensures.value c.tell.ensures in
-    let telling : Telling = record { equations = m.flat.equations; places = w.places; moment = c.args.at; ticks = row_ticks told; answers = c.args.answers.now; left = w.left } in
-    let stepped : AreSteppedAt telling m.clocking.partitions w.slots.items new =
-    subst (λ old. AreSteppedAt telling m.clocking.partitions old new) c.as_mut_slice-slots.ensures.value
-    (subst (λ ps. AreSteppedAt telling ps c.as_mut_slice-slots.result.now new) c.as_slice-partitions.ensures
+    let showing : Showing = record { equations = m.flat.equations; places = w.places; moment = c.args.at; ticks = row_ticks told; answers = c.args.answers.now; left = w.left } in
+    let stepped : AreSteppedAt showing m.clocking.partitions w.slots.items new =
+    subst (λ old. AreSteppedAt showing m.clocking.partitions old new) c.as_mut_slice-slots.ensures.value
+    (subst (λ ps. AreSteppedAt showing ps c.as_mut_slice-slots.result.now new) c.as_slice-partitions.ensures
     (subst (λ ps. AreSteppedAt (record { equations = m.flat.equations; places = ps; moment = c.args.at; ticks = row_ticks told; answers = c.args.answers.now; left = w.left }) c.as_slice-partitions.result.now c.as_mut_slice-slots.result.now new) c.as_slice-places.ensures c.step_parts.ensures)) in
     let gathers : IsWritten (gathered_at m.clocking w.numbers w.places new) c.args.now.now gathered =
     subst (λ ps. IsWritten (gathered_at m.clocking w.numbers ps new) c.args.now.now gathered) c.as_slice-places.ensures

@@ -1,8 +1,8 @@
 use Rattle.std.proofs.Common.{refl, ◌≡◌, ◌∙◌, ap, map, slice_get, Some, None, option_map}
 use Rattle.std.proofs.Common.{length}
 use Rattle.std.proofs.lemmas.Option.{slice_get_read}
-use Rattle.parameter_values.specs.private.Outcomes.{outcome}
-use Rattle.parameter_values.specs.private.Givens.{valued, given_of, rules_by}
+use Rattle.parameter_values.specs.Outcomes.{outcome}
+use Rattle.parameter_values.specs.Givens.{valued, given_of, rules_by}
 use Rattle.parameter_values.proofs.GivenValues.{expr_tells, zero_tells, kept_at, told_as}
 use Rattle.parameter_values.proofs.evaluate.ParametersGiver.give.Goals as goal
 

@@ -1,6 +1,6 @@
 use Rattle.std.proofs.Common.{◌∙◌, ap, ap₂, sym, map}
 use Rattle.parameter_values.specs.Values.{function_named}
-use Rattle.parameter_values.specs.private.Outcomes.{outcome, called_outcome_by, chain_outcome, related_outcome, negated_outcome, inverted_outcome, chosen_outcome}
+use Rattle.parameter_values.specs.Outcomes.{outcome, called_outcome_by, chain_outcome, related_outcome, negated_outcome, inverted_outcome, chosen_outcome}
 use Rattle.parameter_values.proofs.OutcomeNodes.{told-Const, told-Name, told-Call, told-Chain, told-Relation, told-Neg, told-Not, told-Power, told-If}
 use Rattle.parameter_values.proofs.evaluate.Values.+value.Goals as goal
 

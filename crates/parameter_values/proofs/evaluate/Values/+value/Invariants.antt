@@ -1,5 +1,5 @@
 use Rattle.std.proofs.Common.{◌≡◌, map, take}
-use Rattle.parameter_values.specs.private.Outcomes as outcomes
+use Rattle.parameter_values.specs.Outcomes as outcomes
 use Rattle.parameter_values.proofs.evaluate.Values.+value.Given as goal
 
 abbrev pub invariant-all-loop-part : goal.invariant-all-loop-part

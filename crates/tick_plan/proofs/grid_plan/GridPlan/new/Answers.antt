@@ -1,6 +1,6 @@
 use Rattle.std.proofs.Common.{◌≡◌, ◌∙◌, sym, ap, subst, length, replicate, false}
 use Rattle.std.proofs.lemmas.List.{length-replicate}
-use Rattle.tick_plan.specs.Grid.{HaveFactors}
+use Rattle.tick_plan.specs.private.Grid.{HaveFactors}
 use Rattle.tick_plan.specs.Making.{IsCommonOf, AreCountable}
 use Rattle.tick_plan.specs.NewPlan.{IsFirstCourse}
 use Rattle.tick_plan.proofs.NewPlans.{new_left, new_seen, first_within}

@@ -1,5 +1,5 @@
 use Rattle.std.proofs.Common.{sym, subst}
-use Rattle.tick_plan.specs.Course.{IsWithin}
+use Rattle.tick_plan.specs.private.Course.{IsWithin}
 use Rattle.tick_plan.specs.Left.{HasLeft}
 use Rattle.tick_plan.proofs.Gridded.{scaled_still, least_still}
 use Rattle.tick_plan.proofs.Planning.{left_after, few_after, few_still, room_before, goes_on, long_after}

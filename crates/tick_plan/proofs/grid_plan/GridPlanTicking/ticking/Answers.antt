@@ -2,7 +2,7 @@ use Rattle.std.proofs.Common.{◌≡◌, ◌∙◌, sym, subst, ap, ap₂, Some,
 use Rattle.std.specs.Option.{option_copied}
 use Rattle.flat_model.specs.declared.clock.Moment.TheVariants.{At}
 use Rattle.tick_plan.specs.Plans.{clock_ticks_in}
-use Rattle.tick_plan.specs.Grid.{grid_tick}
+use Rattle.tick_plan.specs.private.Grid.{grid_tick}
 use Rattle.tick_plan.specs.Left.{seen}
 use Rattle.tick_plan.proofs.Gridded.{periodic_ticks, step_some, factor_some}
 use Rattle.tick_plan.proofs.grid_plan.GridPlanTicking.ticking.Goals as goal

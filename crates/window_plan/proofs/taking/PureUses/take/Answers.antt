@@ -1,7 +1,7 @@
 use Rattle.std.proofs.Common.{sym, subst}
 use Rattle.tree_step.specs.Starts.{CanStart}
 use Rattle.tree_step.specs.Takes.{TakesUses}
-use Rattle.partition_step.specs.private.Writing.{IsWritten}
+use Rattle.partition_step.specs.Writing.{IsWritten}
 use Rattle.window_plan.specs.private.Cells.{shown_by}
 use Rattle.window_plan.proofs.Shown.{may_start, takes_pure}
 use Rattle.window_plan.proofs.taking.PureUses.take.Goals as goal

@@ -1,9 +1,0 @@
--- Items that have a part in a model: variables, and the equations of classes that give something.
-use Rattle.std.specs.Prelude.{ℕ, List, Bool, true}
-use Rattle.mo_parser.specs.declared.tree.ClassDef.{ClassDef}
-use Rattle.flat_instances.specs.Instances.{Item, Declared, Own}
-use Rattle.class_sizes.specs.Owners.{has_own}
-
-abbrev pub has_part : List ℕ → List ClassDef → Item → Bool
-has_part text classes (Declared v) = true
-has_part text classes (Own scope class) = has_own text classes class

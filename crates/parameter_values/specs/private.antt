@@ -1,3 +1,0 @@
-pub mod Givens
-pub mod Outcomes
-pub mod Slots
