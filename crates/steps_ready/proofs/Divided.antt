@@ -7,7 +7,7 @@ use Rattle.tree_step.specs.declared.taking.Entry.{Entry}
 use Rattle.moment_order.specs.declared.stage.Stage.{Stage}
 use Rattle.moment_order.specs.Stages.{is_stage}
 use Rattle.moment_order.specs.declared.stage.Stage.TheVariants.{Partition}
-use Rattle.steps_ready.specs.private.Division.{entry_of, just, taken_at, part_of, AreDivided}
+use Rattle.steps_ready.specs.Division.{entry_of, just, taken_at, part_of, AreDivided}
 
 more : (stage own : Stage) (stages : List Stage) (taken : Use) (order : List Use) → taken_at stage (own ∷ stages) (taken ∷ order) ≡ just stage own taken ++ taken_at stage stages order
 more stage own stages taken order = by_test (is_stage stage own)

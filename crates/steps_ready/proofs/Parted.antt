@@ -10,7 +10,7 @@ use Rattle.fork_steps.specs.declared.slot.Slot.{Slot}
 use Rattle.moment_steps.specs.declared.piece.Piece.{Piece}
 use Rattle.partition_step.specs.Prepared.{IsPrepared}
 use Rattle.partition_step.proofs.Resting.{places}
-use Rattle.steps_ready.specs.private.Parting.{IsReadySlot, AreReady}
+use Rattle.steps_ready.specs.Parting.{IsReadySlot, AreReady}
 
 append_cases : {A : Type 0} (xs : List A) (y : A) (j : ℕ) (x : A) → slice_get (xs ++ y ∷ []) j ≡ Some x → (slice_get xs j ≡ Some x) ⊎ ((j ≡ length xs) × (x ≡ y))
 append_cases [] y zero x found = inr (refl, sym (same_Some y x found))

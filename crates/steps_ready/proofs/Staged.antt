@@ -18,7 +18,7 @@ use Rattle.moment_order.specs.declared.stage.Stage.{Stage}
 use Rattle.moment_order.specs.declared.stage.Stage.TheVariants.{Partition, Waiting}
 use Rattle.moment_order.specs.Stages.{stage_in, is_stage, uses_at, parts_at}
 use Rattle.moment_steps.specs.Settled.{IsPlainEntry}
-use Rattle.steps_ready.specs.private.Division.{entry_of, taken_at}
+use Rattle.steps_ready.specs.Division.{entry_of, taken_at}
 
 -- ---- the uses of a stage
 

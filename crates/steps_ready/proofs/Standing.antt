@@ -36,9 +36,9 @@ use Rattle.moment_steps.specs.Settled.{own_uses, stages_in, AlwaysTicks, IsSettl
 use Rattle.moment_steps.specs.Standing.{IsLeftAt, StandsBefore}
 use Rattle.moment_steps.proofs.Rows.{is_piece}
 use Rattle.steps_ready.specs.Ready.{IsPreparedFrom}
-use Rattle.steps_ready.specs.private.Division.{taken_at, AreDivided}
-use Rattle.steps_ready.specs.private.Parting.{AreParts, IsReadySlot, AreReady}
-use Rattle.steps_ready.specs.private.Starting.{start_of}
+use Rattle.steps_ready.specs.Division.{taken_at, AreDivided}
+use Rattle.steps_ready.specs.Parting.{AreParts, IsReadySlot, AreReady}
+use Rattle.steps_ready.specs.Starting.{start_of}
 use Rattle.steps_ready.proofs.Staged.{taken_uses, taken_spines, entries_uses, at_stage, partition_known, waits, partitions_below, parts_get, parts_long, plain}
 
 -- ---- the last values are the starts

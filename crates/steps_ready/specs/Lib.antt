@@ -1,2 +1,4 @@
 pub mod Ready
-pub mod private
+pub mod Division
+pub mod Parting
+pub mod Starting

@@ -4,7 +4,9 @@ ghost use Rattle.std.specs.Prelude.{◌≡◌, ℕ, ◌<◌, ◌≤◌, ◌^◌,
 use std::alloc::AllocError;
 
 /// A count of what is numbered by 32 bits; a greater one is want of memory.
-pub(crate) fn numbered(count: usize) -> Result<u32, AllocError>
+///
+/// Source: this project's own.
+pub fn numbered(count: usize) -> Result<u32, AllocError>
     ensures few { OnOk result (count < 2 ^ 32) }
     ensures same { IfOk result (λ numbered. numbered ≡ count) }
 {
@@ -15,7 +17,9 @@ pub(crate) fn numbered(count: usize) -> Result<u32, AllocError>
 }
 
 /// How many base partitions there are, by those of the classes: one more than the greatest number.
-pub(crate) fn count_partitions(partitions: &[u32]) -> usize
+///
+/// Source: this project's own.
+pub fn count_partitions(partitions: &[u32]) -> usize
     ensures below { All (λ partition. partition < result) partitions.now }
     ensures least { (count : ℕ) → All (λ partition. partition < count) partitions.now → result ≤ count }
     ensures few { result ≤ 2 ^ 32 }

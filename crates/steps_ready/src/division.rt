@@ -1,7 +1,7 @@
 //! The uses of a model by their stages.
 ghost use Rattle.std.specs.Prelude.{◌≡◌, ℕ, ◌<◌, [], ◌∷◌, ◌++◌, length, map, vec_len, IfOk, OnOk};
 ghost use Rattle.moment_order.specs.declared.stage.Stage.TheVariants as stage_of;
-ghost use Rattle.steps_ready.specs.private.Division as spec;
+ghost use Rattle.steps_ready.specs.Division as spec;
 
 use eq_order::Use;
 use moment_order::Stage;
@@ -11,7 +11,7 @@ use tree_step::Entry;
 
 /// The unclocked uses with the clock that always ticks, and those of each base partition, each in their order.
 #[derive(Drop)]
-pub(crate) struct Division {
+pub struct Division {
     pub pure: List<Entry>,
     pub waiting: List<Entry>,
     pub parts: Vec<List<Use>>,
@@ -74,7 +74,10 @@ fn empty_parts(alloc: Global, count: usize) -> Result<Vec<List<Use>>, AllocError
 }
 
 /// Divides uses by their stages, in one pass. `count` is that of the base partitions.
-pub(crate) fn divide(
+/// Memory that is refused is the only error.
+///
+/// Source: this project's own.
+pub fn divide(
     alloc: Global,
     stages: &[Stage],
     order: &[Use],

@@ -8,4 +8,8 @@ mod preparing;
 mod reads;
 mod starting;
 
+pub use counting::{count_partitions, numbered};
+pub use division::{Division, divide};
+pub use parting::{Parted, prepare_parts};
 pub use preparing::prepare_steps;
+pub use starting::{always, left_at_first, numbers, room};

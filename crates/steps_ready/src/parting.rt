@@ -1,7 +1,7 @@
 //! The parts of the base partitions.
 ghost use Rattle.std.specs.Prelude.{◌≡◌, ℕ, ◌<◌, ◌≤◌, ◌^◌, length, vec_len, IfOk};
-ghost use Rattle.steps_ready.specs.private.Division.{part_of};
-ghost use Rattle.steps_ready.specs.private.Parting.{AreReady};
+ghost use Rattle.steps_ready.specs.Division.{part_of};
+ghost use Rattle.steps_ready.specs.Parting.{AreReady};
 
 use eq_order::Use;
 use flat_model::{Clocking, FlatModel};
@@ -13,13 +13,16 @@ use sync_values::List;
 
 /// The place of each name's cell in the part that has it, and a slot with a part for each base partition.
 #[derive(Drop)]
-pub(crate) struct Parted {
+pub struct Parted {
     pub places: List<u32>,
     pub slots: Vec<Slot<Piece>>,
 }
 
 /// Prepares the part of each base partition from its uses.
-pub(crate) fn prepare_parts(
+/// Memory that is refused is the only error.
+///
+/// Source: this project's own.
+pub fn prepare_parts(
     alloc: Global,
     flat: &FlatModel,
     clocking: &Clocking,

@@ -2,7 +2,7 @@
 ghost use Rattle.std.specs.Prelude.{◌≡◌, ℕ, ◌<◌, length, map, slice_get, None, Some, IfOk};
 ghost use Rattle.flat_model.specs.Values.{value_in};
 ghost use Rattle.moment_steps.specs.Settled.{AlwaysTicks};
-ghost use Rattle.steps_ready.specs.private.Starting.{start_of};
+ghost use Rattle.steps_ready.specs.Starting.{start_of};
 
 use flat_model::{Elapsed, FlatName, Left};
 use rational_time::make;
@@ -11,7 +11,10 @@ use sync_values::{List, Value};
 use tree_step::{Cell, ClockNow, Standing};
 
 /// The numbers from 0 on.
-pub(crate) fn numbers(alloc: Global, count: u32) -> Result<List<u32>, AllocError>
+/// Memory that is refused is the only error.
+///
+/// Source: this project's own.
+pub fn numbers(alloc: Global, count: u32) -> Result<List<u32>, AllocError>
     ensures size { IfOk result (λ numbers. length numbers ≡ count) }
     ensures each { IfOk result (λ numbers. (x : ℕ) → x < count → slice_get numbers x ≡ Some x) }
 {
@@ -23,7 +26,10 @@ pub(crate) fn numbers(alloc: Global, count: u32) -> Result<List<u32>, AllocError
 }
 
 /// Room for the cell of each name.
-pub(crate) fn room(alloc: Global, count: usize) -> Result<Vec<Cell>, AllocError>
+/// Memory that is refused is the only error.
+///
+/// Source: this project's own.
+pub fn room(alloc: Global, count: usize) -> Result<Vec<Cell>, AllocError>
     ensures { IfOk result (λ cells. length cells.items ≡ count) }
 {
     let cell = Cell {
@@ -36,7 +42,10 @@ pub(crate) fn room(alloc: Global, count: usize) -> Result<Vec<Cell>, AllocError>
 }
 
 /// What is shown of no clock.
-pub(crate) fn always(alloc: Global) -> Result<List<ClockNow>, AllocError>
+/// Memory that is refused is the only error.
+///
+/// Source: this project's own.
+pub fn always(alloc: Global) -> Result<List<ClockNow>, AllocError>
     ensures { IfOk result AlwaysTicks }
 {
     let mut always = List::with_capacity(alloc, 1)?;
@@ -60,7 +69,10 @@ fn starts(alloc: Global, names: &[FlatName]) -> Result<List<Value>, AllocError>
 }
 
 /// The values before the first moment: none at a moment before, and the starts as the last ones.
-pub(crate) fn left_at_first(alloc: Global, names: &[FlatName]) -> Result<Left, AllocError>
+/// Memory that is refused is the only error.
+///
+/// Source: this project's own.
+pub fn left_at_first(alloc: Global, names: &[FlatName]) -> Result<Left, AllocError>
     ensures now { IfOk result (λ left. length left.now ≡ length names.now) }
     ensures none { IfOk result (λ left. (y : ℕ) → value_in left.now y ≡ None) }
     ensures last { IfOk result (λ left. left.last ≡ map start_of names.now) }

@@ -1,7 +1,7 @@
 use Rattle.std.proofs.Common.{rules, arith, ◌≡◌, ◌<◌, ◌≤◌, ◌⊎◌, inl, inr, ◌∙◌, sym, length, vec_len}
 use Rattle.std.proofs.lemmas.Bool.{cases_lt}
 use Rattle.moment_order.specs.declared.stage.Stage.TheVariants.{Pure, Partition, Waiting}
-use Rattle.steps_ready.specs.private.Division.{part_of}
+use Rattle.steps_ready.specs.Division.{part_of}
 use Rattle.steps_ready.proofs.Divided.{entries_next, uses_next, entries_last, uses_last}
 use Rattle.steps_ready.proofs.division.divide.Goals as goal
 

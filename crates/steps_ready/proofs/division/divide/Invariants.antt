@@ -1,6 +1,6 @@
 use Rattle.std.proofs.Common.{◌≡◌, ◌<◌, ◌++◌, ℕ, map, vec_len}
 use Rattle.moment_order.specs.declared.stage.Stage.TheVariants.{Pure, Partition, Waiting}
-use Rattle.steps_ready.specs.private.Division.{entry_of, taken_at, part_of}
+use Rattle.steps_ready.specs.Division.{entry_of, taken_at, part_of}
 use Rattle.steps_ready.proofs.Divided.{left}
 use Rattle.steps_ready.proofs.division.divide.Given as goal
 

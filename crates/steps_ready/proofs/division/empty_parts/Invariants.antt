@@ -1,5 +1,5 @@
 use Rattle.std.proofs.Common.{◌≡◌, ℕ, [], vec_len}
-use Rattle.steps_ready.specs.private.Division.{part_of}
+use Rattle.steps_ready.specs.Division.{part_of}
 use Rattle.steps_ready.proofs.division.empty_parts.Given as goal
 
 abbrev pub invariant-loop-turn : goal.invariant-loop-turn

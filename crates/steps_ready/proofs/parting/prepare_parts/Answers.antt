@@ -1,8 +1,8 @@
 use Rattle.std.proofs.Common.{rules, ◌≡◌, ◌≤◌, ◌∙◌, ap, sym, subst, [], length, Some, slice_get}
 use Rattle.std.proofs.lemmas.List.{get_or_read, with_items_is}
 use Rattle.std.proofs.lemmas.Option.{slice_get-get_or}
-use Rattle.steps_ready.specs.private.Division.{part_of}
-use Rattle.steps_ready.specs.private.Parting.{AreReady}
+use Rattle.steps_ready.specs.Division.{part_of}
+use Rattle.steps_ready.specs.Parting.{AreReady}
 use Rattle.steps_ready.proofs.Parted.{ready_next}
 use Rattle.steps_ready.proofs.parting.prepare_parts.Goals as goal
 

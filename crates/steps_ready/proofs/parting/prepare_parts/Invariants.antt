@@ -1,5 +1,5 @@
 use Rattle.std.proofs.Common.{◌≡◌, length, vec_len}
-use Rattle.steps_ready.specs.private.Parting.{AreReady}
+use Rattle.steps_ready.specs.Parting.{AreReady}
 use Rattle.steps_ready.proofs.parting.prepare_parts.Given as goal
 
 abbrev pub invariant-loop-k : goal.invariant-loop-k

@@ -2,9 +2,9 @@ use Rattle.std.proofs.Common.{rules, ◌≡◌, ◌<◌, ◌^◌, ◌∙◌, ap,
 use Rattle.std.specs.Prelude.{All}
 use Rattle.moment_steps.specs.declared.taking.UnclockedReads.{UnclockedReads}
 use Rattle.tree_step.specs.Changed.{AreReadsOf}
-use Rattle.steps_ready.specs.private.Division.{part_of, AreDivided}
-use Rattle.steps_ready.specs.private.Parting.{AreReady}
-use Rattle.steps_ready.specs.private.Starting.{start_of}
+use Rattle.steps_ready.specs.Division.{part_of, AreDivided}
+use Rattle.steps_ready.specs.Parting.{AreReady}
+use Rattle.steps_ready.specs.Starting.{start_of}
 use Rattle.steps_ready.proofs.Divided.{parts_few}
 use Rattle.steps_ready.proofs.Standing.{are_staged, stands}
 use Rattle.steps_ready.proofs.preparing.prepare_steps.Goals as goal

@@ -1,5 +1,5 @@
 use Rattle.std.proofs.Common.{◌≡◌, map, take}
-use Rattle.steps_ready.specs.private.Starting.{start_of}
+use Rattle.steps_ready.specs.Starting.{start_of}
 use Rattle.steps_ready.proofs.starting.starts.Given as goal
 
 abbrev pub invariant-loop-name : goal.invariant-loop-name
