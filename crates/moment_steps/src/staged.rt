@@ -9,7 +9,7 @@ use crate::piece::{Piece, Scene};
 use crate::stepping::step_parts;
 use crate::taking::{UnclockedReads, take_unclocked};
 use crate::telling::{earlier, least_told};
-use crate::ticks::tell;
+use crate::ticks::ask_ticks;
 use first_failure::EquationFailing;
 use flat_model::{Left, Moment};
 use fork_steps::Slot;
@@ -106,7 +106,7 @@ impl StagedSteps {
         let ticks = self.ticks.as_mut_slice();
         let slots = self.slots.as_mut_slice();
         let cells = self.cells.as_mut_slice();
-        tell(plan, ticks);
+        ask_ticks(plan, ticks);
         let scene = Scene {
             flat: &model.flat,
             places,

@@ -32,7 +32,7 @@ pub(crate) fn ticks_at(ticks: &[bool], class: usize) -> bool
 }
 
 /// Asks a plan of each class.
-pub(crate) fn tell<P: Ticking>(plan: &P, ticks: &mut [bool])
+pub(crate) fn ask_ticks<P: Ticking>(plan: &P, ticks: &mut [bool])
     requires { length ticks.old < 2 ^ 32 }
     ensures { IsWritten (λ class old. P.ticks plan.now class) ticks.old ticks.new }
 {

@@ -12,7 +12,7 @@ use site_risings::{answer_sites, note_sites};
 use tick_plan::TickSource;
 
 /// Asks a plan of each class whether it ticks.
-fn tell<P: TickSource>(plan: &P, ticks: &mut [bool])
+fn ask_ticks<P: TickSource>(plan: &P, ticks: &mut [bool])
     requires { length ticks.old < 2 ^ 32 }
     ensures { IsWritten (λ class old. P.ticks plan.now class) ticks.old ticks.new }
 {
@@ -42,7 +42,7 @@ fn fill_moment<P: TickSource>(
     moment.told = pure.take(&model.flat, base);
     moment.site = answer_sites(model.clocking.sites.as_slice(), base, answers);
     note_sites(plan, answers, low);
-    tell(plan, moment.ticks.as_mut_slice());
+    ask_ticks(plan, moment.ticks.as_mut_slice());
 }
 
 /// Plans the next moment of a run, where one is left.

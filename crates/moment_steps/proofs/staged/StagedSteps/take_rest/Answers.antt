@@ -20,8 +20,8 @@ use Rattle.moment_steps.specs.Steps.{stages_of, based_of}
 use Rattle.moment_steps.proofs.Rest.{can_step_all, can_take_rest, takes_rest, may_tell, same_stages}
 use Rattle.moment_steps.proofs.staged.StagedSteps.take_rest.Goals as goal
 
-pub tell-requires : goal.tell-requires
-tell-requires g c =
+pub ask_ticks-requires : goal.ask_ticks-requires
+ask_ticks-requires g c =
     let w = c.args.self.now in
     let few = may_tell w.pure w.waiting w.reads w.always w.numbers w.cells.items w.ticks.items w.places w.slots.items w.left c.args.model.now c.args.at (g.P.Ticking.ticks c.args.plan.now) c.args.answers.now c.args.now.now c.requires in
     let same = ap length c.as_mut_slice-ticks.ensures.value in
@@ -31,8 +31,8 @@ pub step_parts-requires : goal.step_parts-requires
 step_parts-requires g c =
     let w = c.args.self.now in
     let ticks = g.P.Ticking.ticks c.args.plan.now in
-    let told = c.tell.new.ticks in
-    let tells : IsWritten (λ class old. ticks class) w.ticks.items told = subst (λ old. IsWritten (λ class was. ticks class) old told) c.as_mut_slice-ticks.ensures.value c.tell.ensures in
+    let told = c.ask_ticks.new.ticks in
+    let tells : IsWritten (λ class old. ticks class) w.ticks.items told = subst (λ old. IsWritten (λ class was. ticks class) old told) c.as_mut_slice-ticks.ensures.value c.ask_ticks.ensures in
     let can : (i : ℕ) (slot : Slot Piece) → slice_get c.as_mut_slice-slots.result.now i ≡ Some slot
     → CanStep (record { equations = c.args.model.now.flat.equations; places = c.as_slice-places.result.now; moment = c.args.at; ticks = row_ticks told; answers = c.args.answers.now; left = w.left }) slot.piece.part =
     λ i slot found. subst (λ ps. CanStep (record { equations = c.args.model.now.flat.equations; places = ps; moment = c.args.at; ticks = row_ticks told; answers = c.args.answers.now; left = w.left }) slot.piece.part) (sym c.as_slice-places.ensures)
@@ -45,11 +45,11 @@ take_unclocked-behind-requires g c =
     let w = c.args.self.now in
     let m = c.args.model.now in
     let ticks = g.P.Ticking.ticks c.args.plan.now in
-    let told = c.tell.new.ticks in
+    let told = c.ask_ticks.new.ticks in
     let new = c.step_parts.new.slots in
     let gathered = c.gather.new.now in
     let shown = c.open_ticking.new.cells in
-    let tells : IsWritten (λ class old. ticks class) w.ticks.items told = subst (λ old. IsWritten (λ class was. ticks class) old told) c.as_mut_slice-ticks.ensures.value c.tell.ensures in
+    let tells : IsWritten (λ class old. ticks class) w.ticks.items told = subst (λ old. IsWritten (λ class was. ticks class) old told) c.as_mut_slice-ticks.ensures.value c.ask_ticks.ensures in
     let showing : Showing = record { equations = m.flat.equations; places = w.places; moment = c.args.at; ticks = row_ticks told; answers = c.args.answers.now; left = w.left } in
     let stepped : AreSteppedAt showing m.clocking.partitions w.slots.items new =
     subst (λ old. AreSteppedAt showing m.clocking.partitions old new) c.as_mut_slice-slots.ensures.value
@@ -73,11 +73,11 @@ returns-clause-same g c =
     let w = c.args.self.now in
     let m = c.args.model.now in
     let ticks = g.P.Ticking.ticks c.args.plan.now in
-    let told = c.tell.new.ticks in
+    let told = c.ask_ticks.new.ticks in
     let new = c.step_parts.new.slots in
     let gathered = c.gather.new.now in
     let shown = c.open_ticking.new.cells in
-    let tells : IsWritten (λ class old. ticks class) w.ticks.items told = subst (λ old. IsWritten (λ class was. ticks class) old told) c.as_mut_slice-ticks.ensures.value c.tell.ensures in
+    let tells : IsWritten (λ class old. ticks class) w.ticks.items told = subst (λ old. IsWritten (λ class was. ticks class) old told) c.as_mut_slice-ticks.ensures.value c.ask_ticks.ensures in
     let showing : Showing = record { equations = m.flat.equations; places = w.places; moment = c.args.at; ticks = row_ticks told; answers = c.args.answers.now; left = w.left } in
     let stepped : AreSteppedAt showing m.clocking.partitions w.slots.items new =
     subst (λ old. AreSteppedAt showing m.clocking.partitions old new) c.as_mut_slice-slots.ensures.value
@@ -99,11 +99,11 @@ returns-clause-takes g c =
     let w = c.args.self.now in
     let m = c.args.model.now in
     let ticks = g.P.Ticking.ticks c.args.plan.now in
-    let told = c.tell.new.ticks in
+    let told = c.ask_ticks.new.ticks in
     let new = c.step_parts.new.slots in
     let gathered = c.gather.new.now in
     let shown = c.open_ticking.new.cells in
-    let tells : IsWritten (λ class old. ticks class) w.ticks.items told = subst (λ old. IsWritten (λ class was. ticks class) old told) c.as_mut_slice-ticks.ensures.value c.tell.ensures in
+    let tells : IsWritten (λ class old. ticks class) w.ticks.items told = subst (λ old. IsWritten (λ class was. ticks class) old told) c.as_mut_slice-ticks.ensures.value c.ask_ticks.ensures in
     let showing : Showing = record { equations = m.flat.equations; places = w.places; moment = c.args.at; ticks = row_ticks told; answers = c.args.answers.now; left = w.left } in
     let stepped : AreSteppedAt showing m.clocking.partitions w.slots.items new =
     subst (λ old. AreSteppedAt showing m.clocking.partitions old new) c.as_mut_slice-slots.ensures.value

@@ -1,6 +1,6 @@
 use Rattle.std.proofs.Common.{rules, arith, false, length, ◌≤◌}
 use Rattle.partition_step.proofs.Lists.{written_next, written_last}
-use Rattle.window_plan.proofs.planning.tell.Goals as goal
+use Rattle.window_plan.proofs.planning.ask_ticks.Goals as goal
 
 pub loop-class-preserved : goal.loop-class-preserved
 loop-class-preserved g c =
