@@ -22,24 +22,13 @@ impl<'a> From<AllocError> for End<'a> {
     }
 }
 
-impl<'a> From<mo_connect::NoMemory> for End<'a> {
+impl<'a> From<sync_values::NoMemory> for End<'a> {
     ghost use Rattle.std.specs.Prelude.{◌≡◌};
     ghost use Rattle.command_stages.specs.declared.end.End.TheVariants.{NoMemory};
 
     ghost from_gives = { λ _ end. end ≡ NoMemory };
 
-    fn from(_error: mo_connect::NoMemory) -> End<'a> {
-        End::NoMemory
-    }
-}
-
-impl<'a> From<trace_print::NoMemory> for End<'a> {
-    ghost use Rattle.std.specs.Prelude.{◌≡◌};
-    ghost use Rattle.command_stages.specs.declared.end.End.TheVariants.{NoMemory};
-
-    ghost from_gives = { λ _ end. end ≡ NoMemory };
-
-    fn from(_error: trace_print::NoMemory) -> End<'a> {
+    fn from(_error: sync_values::NoMemory) -> End<'a> {
         End::NoMemory
     }
 }

@@ -87,18 +87,18 @@ fn runs_of_the_stress_model(rt: HostRuntime) {
 
 #[test]
 fn the_sums_are_the_same_for_all_workers(rt: HostRuntime) {
-    for workers in ["1", "2", "64"] {
+    for workers in ["2", "64"] {
         let words = [
-            "1000",
+            "7",
             "--stop",
-            "1",
+            "0.05",
             "--mode",
             "stress",
             "--workers",
             workers,
         ];
         let ended = answer_of(&rt, rt.alloc(), &words, b"", b"");
-        let out = b"stress 1000\nrows 1001\nvalues 1365000\nsum 677690975\n";
+        let out = b"stress 7\nrows 51\nvalues 522\nsum 237107\n";
         assert!(&rt; ended.is(Status::Done, out, ""), "{workers} workers");
     }
 }

@@ -1,5 +1,5 @@
 pub mod Divided
-pub mod Parted
+pub mod EachPart
 pub mod Staged
 pub mod Standing
 pub mod Gathered

@@ -3,7 +3,7 @@ use Rattle.std.proofs.lemmas.List.{get_or_read, with_items_is}
 use Rattle.std.proofs.lemmas.Option.{slice_get-get_or}
 use Rattle.steps_ready.specs.Division.{part_of}
 use Rattle.steps_ready.specs.Parting.{AreReady}
-use Rattle.steps_ready.proofs.Parted.{ready_next}
+use Rattle.steps_ready.proofs.EachPart.{ready_next}
 use Rattle.steps_ready.proofs.parting.prepare_parts.Goals as goal
 
 pub loop-k-preserved : goal.loop-k-preserved
